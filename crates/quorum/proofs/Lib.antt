@@ -1,0 +1,4 @@
+pub mod CountingLaws
+pub mod SiteLaws
+pub mod SiteLists
+pub mod FromLaws

@@ -1,0 +1,5 @@
+pub mod Laws
+pub mod Consequences
+pub mod Reasons
+pub mod CountingSets
+pub mod SiteSets

@@ -1,0 +1,31 @@
+//! Why the figures of a quorum system break its limits.
+ghost use mathlib.Core.Path.{_≡_};
+ghost use Rattle.quorum.specs.Reasons.{decline-of};
+use decline::Decline;
+
+#[derive(Clone, Copy, PartialEq, Eq, Debug)]
+pub enum Unfit {
+    NoStations,
+    // More than ten.
+    TooManyStations,
+    // Three times as many as there are stations, or more.
+    TooManyFaults,
+    // The first site number above nine.
+    NoSuchSite(u64),
+    // Fewer than four.
+    TooFewSites,
+}
+
+pub impl From<Unfit> for Decline as UnfitDecline {
+    ghost converts = { λ reason r. r ≡ decline-of reason };
+
+    fn from(reason: Unfit) -> Decline {
+        match reason {
+            Unfit::NoStations
+            | Unfit::TooManyStations
+            | Unfit::TooManyFaults
+            | Unfit::NoSuchSite(_)
+            | Unfit::TooFewSites => Decline::UnfitSystem,
+        }
+    }
+}
