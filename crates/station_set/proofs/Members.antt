@@ -120,6 +120,32 @@ has-set-of n p s = ⊎-elim (λ h. by-bit (set-of n p) s (ltb s n && p s) (inner
         (λ ne. let l : s < k = omega arith in ap (λ x. bit x s) (set-of-suc k p) ∙ bit-low (cond (p k) 1 0) k (set-of k p) s l ∙ inner k l)
         (cases-eq s k)
 
+-- a loop over the stations that inserts those that pass, and where it may end
+pub set-of-none : (p : ℕ → Bool) → 0 ≡ set-of 0 p
+unfolding set-of
+set-of-none p = refl
+
+pub set-of-more-yes : (n : ℕ) (p : ℕ → Bool) (r : ℕ) → n < 16 → p n ≡ true
+    → ((s : ℕ) → has r s ≡ (has (set-of n p) s || (ltb s 16 && eqb s n))) → r ≡ set-of (n + 1) p
+set-of-more-yes n p r room e by =
+    same-members r (set-of (n + 1) p)
+    (λ s. by s ∙ ap (λ t. t || (ltb s 16 && eqb s n)) (has-set-of n p s) ∙ at s ∙ sym (has-set-of (n + 1) p s))
+  where
+    at : (s : ℕ) → ((ltb s n && p s) || (ltb s 16 && eqb s n)) ≡ (ltb s (n + 1) && p s)
+    at s = ⊎-elim (λ same. let here : p s ≡ true = ap p same ∙ e in grind (arith, tells)) (λ other. grind (arith, tells)) (cases-eq s n)
+
+pub set-of-more-no : (n : ℕ) (p : ℕ → Bool) → p n ≡ false → set-of n p ≡ set-of (n + 1) p
+set-of-more-no n p e = same-members (set-of n p) (set-of (n + 1) p) (λ s. has-set-of n p s ∙ at s ∙ sym (has-set-of (n + 1) p s))
+  where
+    at : (s : ℕ) → (ltb s n && p s) ≡ (ltb s (n + 1) && p s)
+    at s = ⊎-elim (λ same. let here : p s ≡ false = ap p same ∙ e in grind (arith, tells)) (λ other. grind (arith, tells)) (cases-eq s n)
+
+pub set-of-rest : (n k : ℕ) (p : ℕ → Bool) → n ≤ k → ((s : ℕ) → n ≤ s → s < k → p s ≡ false) → set-of n p ≡ set-of k p
+set-of-rest n k p le quiet = same-members (set-of n p) (set-of k p) (λ s. has-set-of n p s ∙ at s ∙ sym (has-set-of k p s))
+  where
+    at : (s : ℕ) → (ltb s n && p s) ≡ (ltb s k && p s)
+    at s = ⊎-elim (λ l. grind (arith, tells)) (λ g. ⊎-elim (λ m. let here = quiet s g m in grind (arith, tells)) (λ m. grind (arith, tells)) (cases-lt s k)) (cases-lt s n)
+
 pub has-missing : (n set s : ℕ) → has (missing n set) s ≡ (ltb s n && not (has set s))
 has-missing n set s = has-set-of n (λ u. not (has set u)) s
 

@@ -29,6 +29,13 @@ pub fn union(a: u16, b: u16) -> u16
     a | b
 }
 
+// The set with one station more.
+pub fn insert(set: u16, s: usize) -> u16
+    ensures { λ r. ⌜ ((u : ℕ) → has r u ≡ (has set u || (ltb u 16 && eqb u s))) ⌝ }
+{
+    union(set, single(s))
+}
+
 // The stations of both sets.
 pub fn common(a: u16, b: u16) -> u16
     ensures { λ r. ⌜ ((s : ℕ) → has r s ≡ (has a s && has b s)) ⌝ }
