@@ -36,6 +36,13 @@ pub fn insert(set: u16, s: usize) -> u16
     union(set, single(s))
 }
 
+// The set without one station.
+pub fn remove(set: u16, s: usize) -> u16
+    ensures { λ r. ⌜ ((u : ℕ) → has r u ≡ (has set u && not (eqb u s))) ⌝ }
+{
+    common(set, missing(ROOM, single(s)))
+}
+
 // The stations of both sets.
 pub fn common(a: u16, b: u16) -> u16
     ensures { λ r. ⌜ ((s : ℕ) → has r s ≡ (has a s && has b s)) ⌝ }

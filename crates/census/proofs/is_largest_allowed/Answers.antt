@@ -1,0 +1,13 @@
+use mathlib.Core.Path.{_≡_, refl, sym, _∙_}
+use mathlib.Core.Bool.{true}
+use native.Mathlib.Omega.{arith}
+use Rattle.census.proofs.Steps.{largest-from}
+use Rattle.census.proofs.is_largest_allowed.Needs as need
+
+pub returns : need.returns
+returns g c =
+    let q = c .args .system .now in
+    let set = c .args .set in
+    let met = g .S·QuorumSystem·met in
+    let ok : g .S·QuorumSystem .allowed q set ≡ true = sym (c .is-allowed .ensures) ∙ c .if-not-is-allowed .left in
+    ((λ _. largest-from (g .S·QuorumSystem .stations q) (g .S·QuorumSystem .allowed q) (g .S·QuorumSystem .quorum q) (met .sized q) (met .bounded q) (met .subset q) set ok (λ k l. c .loop-s .inv k (omega arith))), (λ _. refl))
