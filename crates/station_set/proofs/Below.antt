@@ -30,6 +30,14 @@ search-below n p =
     (λ e. inr (λ s h. ⊎-elim (λ y. absurd (both-ways _ e (any-below-decides n p .1 (s, h, y)))) (λ f. f) (cases-bool (p s))))
     (cases-bool (any-below n p))
 
+pub all-same : (n : ℕ) (p q : ℕ → Bool) → ((s : ℕ) → s < n → p s ≡ q s) → all-below n p ≡ all-below n q
+unfolding all-below
+all-same zero p q h = refl
+all-same (suc n) p q h =
+    let ih = all-same n p q (λ s l. h s (omega arith)) in
+    let here = h n (omega arith) in
+    rw (ih, here)
+
 pub any-same : (n : ℕ) (p q : ℕ → Bool) → ((s : ℕ) → s < n → p s ≡ q s) → any-below n p ≡ any-below n q
 unfolding any-below
 any-same zero p q h = refl
