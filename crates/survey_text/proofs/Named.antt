@@ -19,7 +19,7 @@ use Rattle.survey_text.specs.Answered.{Reports, CountingAnswer, SitesAnswer}
 unbarred : (A : Type 0) (Q : Unfit → Type 0) (bar : Option Unfit) → bar ≡ None → A → Cases bar A Q
 unbarred A Q bar e a = subst (λ (o : Option Unfit). Cases o A Q) (sym e) a
 
-pub counting-reported : (n t m s : ℕ) (name text : List ℕ) → counting-bar n t ≡ None → m ≡ n → s ≡ t → name ≡ counting-name t
+pub counting-reported : (n t m s : ℕ) (name text : List ℕ) → counting-bar n t ≡ None → m ≡ n → s ≡ t → name ≡ counting-name n t
     → Reports m (at-most m s) (all-but m s) name text → CountingAnswer n t text
 counting-reported n t m s name text open-way en et ename h =
     let by-n = subst (λ (k : ℕ). Reports k (at-most k s) (all-but k s) name text) en h in

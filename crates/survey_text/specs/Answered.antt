@@ -18,12 +18,12 @@ use Rattle.survey_text.specs.Asked.{Asks}
 
 -- the text tells of a survey of the system with these families
 abbrev pub Reports : ℕ → (ℕ → Bool) → (ℕ → Bool) → List ℕ → List ℕ → Type 0
-Reports n allowed quorum name text = (survey : Survey) × Surveyed n allowed quorum survey × (text ≡ survey-text n name survey)
+Reports n allowed quorum name text = (survey : Survey) × Surveyed n allowed quorum survey × (text ≡ survey-text name survey)
 
 -- it tells of the system's survey, or of the first reason against its figures
 abbrev pub CountingAnswer : ℕ → ℕ → List ℕ → Type 0
 CountingAnswer n t text =
-    Cases (counting-bar n t) (Reports n (at-most n t) (all-but n t) (counting-name t) text) (λ reason. text ≡ declined-text reason)
+    Cases (counting-bar n t) (Reports n (at-most n t) (all-but n t) (counting-name n t) text) (λ reason. text ≡ declined-text reason)
 
 abbrev pub SitesAnswer : List ℕ → List ℕ → Type 0
 SitesAnswer sites text =

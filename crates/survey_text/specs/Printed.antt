@@ -27,22 +27,22 @@ abbrev pub set-line : ℕ → List ℕ
 set-line set = codes "{" ++ members-text 16 set ++ codes " }\n"
 
 -- the lines of a survey: the two lists of sets, how many sets there are of each family, and what was surveyed
-abbrev pub survey-lines : List ℕ → List ℕ → ℕ → ℕ → ℕ → List ℕ → List ℕ
-survey-lines largest smallest allowed quorums stations name =
+abbrev pub survey-lines : List ℕ → List ℕ → ℕ → ℕ → List ℕ → List ℕ
+survey-lines largest smallest allowed quorums name =
     codes "largest allowed sets:\n" ++ (largest ++ (codes "smallest quorums:\n" ++ (smallest
-    ++ (decimal allowed ++ (codes " allowed sets, " ++ (decimal quorums ++ (codes " quorums\n"
-    ++ (codes "surveyed: " ++ (decimal stations ++ (codes " stations, " ++ (name ++ codes "\n")))))))))))
+    ++ (codes "allowed sets: " ++ (decimal allowed ++ (codes "\nquorums: " ++ (decimal quorums
+    ++ (codes "\nsurveyed: " ++ (name ++ codes "\n")))))))))
 
-abbrev pub survey-text : ℕ → List ℕ → Survey → List ℕ
-survey-text stations name survey =
+abbrev pub survey-text : List ℕ → Survey → List ℕ
+survey-text name survey =
     survey-lines (joined set-line (vec-items (survey .«largest_allowed»))) (joined set-line (vec-items (survey .«smallest_quorums»)))
-    (survey .«allowed_sets») (survey .quorums) stations name
+    (survey .«allowed_sets») (survey .quorums) name
 
-abbrev pub counting-name : ℕ → List ℕ
-counting-name t = codes "at most " ++ (decimal t ++ codes " faulty")
+abbrev pub counting-name : ℕ → ℕ → List ℕ
+counting-name n t = codes "counting " ++ (decimal n ++ (codes " " ++ decimal t))
 
 abbrev pub sites-name : List ℕ → List ℕ
-sites-name sites = codes "at sites" ++ joined spaced sites
+sites-name sites = codes "sites" ++ joined spaced sites
 
 -- why a system is declined
 abbrev pub why : Unfit → List ℕ

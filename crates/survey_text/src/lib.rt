@@ -59,7 +59,7 @@ fn lines_of_sets(heap: Global, sets: &[u16]) -> Result<String, AllocError>
 fn name_of_sites(heap: Global, sites: &[u64]) -> Result<String, AllocError>
     ensures { λ r. ⌜ made r (λ text. string-bytes text ≡ sites-name (now (sites .entry))) ⌝ }
 {
-    let mut text = String::from_str(heap, "at sites")?;
+    let mut text = String::from_str(heap, "sites")?;
     for site in sites {
         let word = format!(heap, " {site}")?;
         text.push_str(word.as_str())?;
@@ -96,10 +96,9 @@ fn report<S: QuorumSystem>(heap: Global, system: &S, name: &str) -> Result<Strin
     let smallest = lines_of_sets(heap, survey.smallest_quorums.as_slice())?;
     let allowed = survey.allowed_sets;
     let quorums = survey.quorums;
-    let stations = system.size();
     format!(
         heap,
-        "largest allowed sets:\n{largest}smallest quorums:\n{smallest}{allowed} allowed sets, {quorums} quorums\nsurveyed: {stations} stations, {name}\n"
+        "largest allowed sets:\n{largest}smallest quorums:\n{smallest}allowed sets: {allowed}\nquorums: {quorums}\nsurveyed: {name}\n"
     )
 }
 
@@ -108,7 +107,7 @@ fn survey_counting(heap: Global, n: u64, t: u64) -> Result<String, AllocError>
 {
     match Counting::new(n, t) {
         Ok(system) => {
-            let name = format!(heap, "at most {t} faulty")?;
+            let name = format!(heap, "counting {n} {t}")?;
             report(heap, &system, name.as_str())
         }
         Err(reason) => declined(heap, reason),

@@ -20,10 +20,10 @@ loop-site-again c =
     let word : string-bytes (c .in-Continue-word .word) ≡ spaced (getD sites i 0) = c .in-Continue-word .ensures tt .made in
     c .in-Continue-push-str .ensures tt .bytes
     ∙ ap (λ t. t ++ now (c .as-str .result)) (c .loop-site .inv)
-    ∙ ap (λ t. (codes "at sites" ++ joined spaced (take i sites)) ++ t) (c .as-str .ensures .value ∙ word)
-    ∙ sym (joined-one-more spaced (codes "at sites") sites i 0 here)
+    ∙ ap (λ t. (codes "sites" ++ joined spaced (take i sites)) ++ t) (c .as-str .ensures .value ∙ word)
+    ∙ sym (joined-one-more spaced (codes "sites") sites i 0 here)
 
 pub returns : need.returns
 returns c =
     let sites = c .args .sites .now in
-    c .loop-site .inv ∙ ap (λ xs. codes "at sites" ++ joined spaced xs) (take-all (c .loop-site .site-index) sites (omega arith))
+    c .loop-site .inv ∙ ap (λ xs. codes "sites" ++ joined spaced xs) (take-all (c .loop-site .site-index) sites (omega arith))

@@ -8,4 +8,4 @@ use Rattle.survey_text.specs.Printed.{spaced}
 use Rattle.survey_text.proofs.name_of_sites.Given as given
 
 abbrev pub Inv-loop-site : given.InvT-loop-site
-Inv-loop-site l = string-bytes (l .text) ≡ codes "at sites" ++ joined spaced (take (l .site-index) (l .sites))
+Inv-loop-site l = string-bytes (l .text) ≡ codes "sites" ++ joined spaced (take (l .site-index) (l .sites))

@@ -18,15 +18,13 @@ returns g c =
     let survey = c .in-Continue-survey .survey in
     let largest = string-bytes (c .in-Continue-largest .largest) in
     let smallest = string-bytes (c .in-Continue-smallest .smallest) in
-    let stations = c .size-stations .result in
     let a = survey .«allowed_sets» in
     let b = survey .quorums in
     let first : largest ≡ joined set-line (vec-items (survey .«largest_allowed»)) = c .in-Continue-largest .ensures tt ∙ ap (joined set-line) (c .as-slice .ensures .value) in
     let second : smallest ≡ joined set-line (vec-items (survey .«smallest_quorums»)) = c .in-Continue-smallest .ensures tt ∙ ap (joined set-line) (c .as-slice-2 .ensures .value) in
-    let filled : survey-lines largest smallest a b stations name ≡ survey-text n name survey =
-    ap (λ t. survey-lines t smallest a b stations name) first
-    ∙ ap (λ t. survey-lines (joined set-line (vec-items (survey .«largest_allowed»))) t a b stations name) second
-    ∙ ap (λ k. survey-lines (joined set-line (vec-items (survey .«largest_allowed»))) (joined set-line (vec-items (survey .«smallest_quorums»))) a b k name) (c .size-stations .ensures) in
-    made-weaker (c .format .result) (λ text. string-bytes text ≡ survey-lines largest smallest a b stations name)
+    let filled : survey-lines largest smallest a b name ≡ survey-text name survey =
+    ap (λ t. survey-lines t smallest a b name) first
+    ∙ ap (λ t. survey-lines (joined set-line (vec-items (survey .«largest_allowed»))) t a b name) second in
+    made-weaker (c .format .result) (λ text. string-bytes text ≡ survey-lines largest smallest a b name)
     (λ text. Reports n (g .S·QuorumSystem .allowed q) (g .S·QuorumSystem .quorum q) name (string-bytes text))
     (λ text e. (survey, c .in-Continue-survey .ensures tt, e ∙ filled)) (c .format .ensures .made)
