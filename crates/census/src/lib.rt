@@ -7,7 +7,7 @@ ghost use Rattle.std.specs.Orderings.{Decides};
 ghost use Rattle.std.specs.Vec.{made};
 ghost use Rattle.station_set.specs.Below.{count-below};
 ghost use Rattle.census.specs.declared.Family.the-variants.{Allowed, Quorums};
-ghost use Rattle.census.specs.Outermost.{family-of, Outermost, Exactly};
+ghost use Rattle.census.specs.Outermost.{family-of, grows, shrinks, Outermost, Exactly};
 ghost use Rattle.census.specs.Surveyed.{Surveyed};
 use quorum::QuorumSystem;
 use station_set::contains;
@@ -40,7 +40,21 @@ fn is_in<S: QuorumSystem>(system: &S, family: Family, set: u16) -> bool
     }
 }
 
-// Whether the set is allowed, and with any one station more it is not: then no allowed set includes it.
+// Whether station s is not in the set, and the set stays allowed with it.
+fn can_grow<S: QuorumSystem>(system: &S, set: u16, s: usize) -> bool
+    ensures { λ r. ⌜ r ≡ grows (S·QuorumSystem .allowed (now (system .entry))) set s ⌝ }
+{
+    !contains(set, s) && system.is_allowed(insert(set, s))
+}
+
+// Whether station s is in the set, and the set stays a quorum without it.
+fn can_shrink<S: QuorumSystem>(system: &S, set: u16, s: usize) -> bool
+    ensures { λ r. ⌜ r ≡ shrinks (S·QuorumSystem .quorum (now (system .entry))) set s ⌝ }
+{
+    contains(set, s) && system.is_quorum(remove(set, s))
+}
+
+// Whether the set is allowed and cannot grow by one station: then no other allowed set includes it.
 fn is_largest_allowed<S: QuorumSystem>(system: &S, set: u16) -> bool
     ensures { λ r. ⌜ Decides r (Outermost Allowed (S·QuorumSystem .allowed (now (system .entry))) (S·QuorumSystem .quorum (now (system .entry))) set) ⌝ }
 {
@@ -48,14 +62,14 @@ fn is_largest_allowed<S: QuorumSystem>(system: &S, set: u16) -> bool
         return false;
     }
     for s in 0..system.size() {
-        if !contains(set, s) && system.is_allowed(insert(set, s)) {
+        if can_grow(system, set, s) {
             return false;
         }
     }
     true
 }
 
-// Whether the set is a quorum, and with any one station less it is not: then it includes no other quorum.
+// Whether the set is a quorum and cannot shrink by one station: then it includes no other quorum.
 fn is_smallest_quorum<S: QuorumSystem>(system: &S, set: u16) -> bool
     ensures { λ r. ⌜ Decides r (Outermost Quorums (S·QuorumSystem .allowed (now (system .entry))) (S·QuorumSystem .quorum (now (system .entry))) set) ⌝ }
 {
@@ -63,7 +77,7 @@ fn is_smallest_quorum<S: QuorumSystem>(system: &S, set: u16) -> bool
         return false;
     }
     for s in 0..system.size() {
-        if contains(set, s) && system.is_quorum(remove(set, s)) {
+        if can_shrink(system, set, s) {
             return false;
         }
     }

@@ -3,6 +3,7 @@ use mathlib.Core.Path.{_≡_, refl, ap}
 use mathlib.Core.Bool.{Bool, true, false, not, _&&_}
 use mathlib.Core.List.{List, [], _∷_}
 use Prim.Native.Nat.{ℕ}
+use lib.Count.{ones, onesIn}
 use lib.Dec.{eqb}
 use Rattle.std.specs.Options.{mapped}
 use Rattle.std.specs.declared.option.Option.{Option}
@@ -11,10 +12,9 @@ use Rattle.std.specs.shelf.Lists.{All}
 use Rattle.std.proofs.shelf.Tests.{and-parts, eqb-true, false≢true}
 use Rattle.decline.specs.Numbers.{number-of}
 use Rattle.station_set.specs.Below.{all-below, any-below, count-below}
-use Rattle.station_set.specs.Sets.{has, among, set-of}
+use Rattle.station_set.specs.Sets.{has}
 use Rattle.quorum.specs.Reasons.{decline-of}
-use Rattle.quorum.specs.CountingSets.{at-most, all-but}
-use Rattle.quorum.specs.SiteSets.{share-site, one-site, lacks-one-site, sites-occurring, sites-bar}
+use Rattle.quorum.specs.SiteSets.{share-site, sites-occurring, sites-bar}
 use Rattle.examples.specs.Rows.{Row, set-of-stations, making, allowed-in, quorum-in, bar-of, stations, Claim}
 use Rattle.examples.specs.Table.{table, Examples-hold}
 
@@ -64,7 +64,7 @@ all-claimed (row ∷ rows) e = let w = and-parts (passes row) (all-pass rows) e 
 
 -- the test, computed
 table-passes : all-pass table ≡ true
-unfolding all-pass passes same same-number has among set-of all-below any-below count-below at-most all-but share-site one-site lacks-one-site sites-occurring sites-bar
+unfolding all-pass passes same same-number has ones onesIn all-below any-below count-below share-site sites-occurring sites-bar
 table-passes = refl
 
 pub examples-hold : Examples-hold

@@ -5,12 +5,11 @@ use Prim.Native.Nat.{ℕ, _+_, _-_, _*_, _≤_, _<_}
 use native.Mathlib.Omega.{arith}
 use lib.Dec.{leb}
 use Rattle.std.specs.Orderings.{Decides}
-use Rattle.std.proofs.shelf.Tests.{both-ways, and-left, leb-true, le-leb}
-use Rattle.std.proofs.shelf.Ways.{decides-and}
+use Rattle.std.proofs.shelf.Tests.{both-ways, and-parts, and-from, leb-true, le-leb}
 use Rattle.station_set.specs.Below.{count-below}
 use Rattle.station_set.specs.Sets.{has, Inside, Among, among, union, common, missing, members}
 use Rattle.station_set.proofs.Below.{count-le, count-no, count-mono, count-same, count-both-either, count-opposite}
-use Rattle.station_set.proofs.Members.{among-decides, has-none, has-common, has-missing-below, missing-among, members-more}
+use Rattle.station_set.proofs.Members.{among-decides, has-none, has-common, has-missing-below, missing-among, members-below}
 use Rattle.station_set.proofs.Below.{false-if-not}
 use Rattle.quorum.specs.Laws.{Of-stations, Empty-allowed, Subset-allowed, Superset-quorum, Overlap-not-allowed, Outside-quorum}
 use Rattle.quorum.specs.CountingSets.{at-most, all-but, AtMost, AllBut}
@@ -18,12 +17,22 @@ use Rattle.quorum.specs.CountingSets.{at-most, all-but, AtMost, AllBut}
 module _ (n t : ℕ) where
   -- the two families in words
   pub at-most-words : (set : ℕ) → Decides (at-most n t set) (AtMost n t set)
-  unfolding at-most
-  at-most-words set = decides-and (among n set) (leb (members n set) t) (among-decides n set) ((leb-true _ _), (le-leb _ _))
+  at-most-words set = (
+    (λ e.
+        let w = and-parts (among n set) (leb (members set) t) e in
+        let mine = among-decides n set .0 (w .0) in
+        (mine, omega (arith, leb-true (members set) t (w .1), members-below n set mine))),
+    (λ w. and-from (among n set) (leb (members set) t) (among-decides n set .1 (w .0)) (le-leb (members set) t (omega (arith, w .1, members-below n set (w .0))))),
+  )
 
   pub all-but-words : (set : ℕ) → Decides (all-but n t set) (AllBut n t set)
-  unfolding all-but
-  all-but-words set = decides-and (among n set) (leb (n - t) (members n set)) (among-decides n set) ((leb-true _ _), (le-leb _ _))
+  all-but-words set = (
+    (λ e.
+        let w = and-parts (among n set) (leb (n - t) (members set)) e in
+        let mine = among-decides n set .0 (w .0) in
+        (mine, omega (arith, leb-true (n - t) (members set) (w .1), members-below n set mine))),
+    (λ w. and-from (among n set) (leb (n - t) (members set)) (among-decides n set .1 (w .0)) (le-leb (n - t) (members set) (omega (arith, w .1, members-below n set (w .0))))),
+  )
 
   pub counting-bounded : Of-stations n (at-most n t)
   counting-bounded a e = at-most-words a .0 e .0
@@ -60,30 +69,8 @@ module _ (n t : ℕ) where
         count-le n (λ s. has a s || has b s),
       ))
 
-  pub counting-outside : Outside-quorum n (at-most n t) (all-but n t)
-  counting-outside a e =
+  pub counting-outside : n ≤ 16 → Outside-quorum n (at-most n t) (all-but n t)
+  counting-outside room a e =
       let w = at-most-words a .0 e in
       all-but-words (missing n a) .1
-      (missing-among n a, omega (arith, w .1, count-opposite n (has a), count-same n (has (missing n a)) (λ s. not (has a s)) (has-missing-below n a)))
-
-  -- ---- how the code asks
-
-  pub at-most-asked : (set count : ℕ) → n ≤ 16 → among n set ≡ true → count ≡ members 16 set → leb count t ≡ at-most n t set
-  unfolding at-most
-  at-most-asked set count few mine e =
-      let same : count ≡ members n set = e ∙ members-more n 16 set few (among-decides n set .0 mine) in
-      ap (λ k. leb k t) same ∙ ap (λ b. b && leb (members n set) t) (sym mine)
-
-  pub all-but-asked : (set count : ℕ) → n ≤ 16 → among n set ≡ true → count ≡ members 16 set → leb (n - t) count ≡ all-but n t set
-  unfolding all-but
-  all-but-asked set count few mine e =
-      let same : count ≡ members n set = e ∙ members-more n 16 set few (among-decides n set .0 mine) in
-      ap (λ k. leb (n - t) k) same ∙ ap (λ b. b && leb (n - t) (members n set)) (sym mine)
-
-  pub at-most-stranger : (set : ℕ) (b : Bool) → b ≡ among n set → b ≡ false → b ≡ at-most n t set
-  unfolding at-most
-  at-most-stranger set b e no-one = no-one ∙ sym (and-left (among n set) (leb (members n set) t) (sym e ∙ no-one))
-
-  pub all-but-stranger : (set : ℕ) (b : Bool) → b ≡ among n set → b ≡ false → b ≡ all-but n t set
-  unfolding all-but
-  all-but-stranger set b e no-one = no-one ∙ sym (and-left (among n set) (leb (n - t) (members n set)) (sym e ∙ no-one))
+      (missing-among n a room, omega (arith, w .1, count-opposite n (has a), count-same n (has (missing n a)) (λ s. not (has a s)) (λ s. has-missing-below n a s room)))

@@ -35,5 +35,5 @@ module _ (n : ℕ) (allowed quorum : Family) (laws : Laws n allowed quorum) wher
   pub including-outside-quorum : Including-outside-quorum n allowed quorum
   including-outside-quorum f a ok mine holds =
       laws .superset (missing n f) a
-      (λ s h. let l = missing-among n f s h in holds s l (not-true _ (sym (has-missing-below n f s l) ∙ h)))
+      (λ s h. let l = missing-among n f (laws .sized) s h in holds s l (not-true _ (sym (has-missing-below n f s (laws .sized) l) ∙ h)))
       mine (laws .outside f ok)

@@ -7,7 +7,7 @@ use Prim.Native.Nat.{ℕ, _≤_, _<_}
 use native.Mathlib.Omega.{arith}
 use lib.Dec.{eqb}
 use Rattle.std.specs.Orderings.{Decides}
-use Rattle.std.proofs.shelf.Tests.{cases-lt, both-ways, and-left, eqb-true, eq-eqb, and-parts, and-from, not-true, not-from-false}
+use Rattle.std.proofs.shelf.Tests.{cases-lt, both-ways, eqb-true, eq-eqb, and-parts, and-from, not-true, not-from-false}
 use Rattle.std.proofs.shelf.Ways.{decides-and, decides-like}
 use Rattle.station_set.specs.Below.{all-below}
 use Rattle.station_set.specs.Sets.{has, Inside, Among, among, common, missing}
@@ -17,12 +17,6 @@ use Rattle.quorum.specs.Laws.{Of-stations, Empty-allowed, Subset-allowed, Supe
 use Rattle.quorum.specs.SiteSets.{site-of, share-site, one-site, lacks-one-site, OneSite, LacksOneSite, occurs, sites-occurring}
 
 module _ (sites : List ℕ) (n : ℕ) where
-  -- any two members are at one site
-  abbrev Together : ℕ → Type 0
-  Together set = (s u : ℕ) → has set s ≡ true → has set u ≡ true → site-of sites s ≡ site-of sites u
-
-  -- ---- the two families in words
-
   either : (p q b : Bool) → (not (p && q) || b) ≡ true → p ≡ true → q ≡ true → b ≡ true
   either true true b e _ _ = e
   either true false b e _ q = absurd (both-ways false refl q)
@@ -42,20 +36,25 @@ module _ (sites : List ℕ) (n : ℕ) where
     (λ w. all-below-decides n _ .1 (λ s ls. all-below-decides n _ .1 (λ u lu. or-both (has set s) (has set u) _ (λ hs hu. eq-eqb _ _ (w s u ls lu hs hu))))),
   )
 
+module _ (sites : List ℕ) (n : ℕ) (room : n ≤ 16) where
+  -- any two members are at one site
+  abbrev Together : ℕ → Type 0
+  Together set = (s u : ℕ) → has set s ≡ true → has set u ≡ true → site-of sites s ≡ site-of sites u
+
+  -- ---- the two families in words
+
   pub one-site-decides : (set : ℕ) → Decides (one-site sites n set) (Among n set × Together set)
-  unfolding one-site
   one-site-decides set = (
     (λ e.
         let w = and-parts (among n set) (share-site sites n set) e in
         let mine = among-decides n set .0 (w .0) in
-        (mine, λ s u hs hu. share-decides set .0 (w .1) s u (mine s hs) (mine u hu) hs hu)),
+        (mine, λ s u hs hu. share-decides sites n set .0 (w .1) s u (mine s hs) (mine u hu) hs hu)),
     (λ w.
         and-from (among n set) (share-site sites n set) (among-decides n set .1 (w .0))
-        (share-decides set .1 (λ s u _ _. w .1 s u))),
+        (share-decides sites n set .1 (λ s u _ _. w .1 s u))),
   )
 
   pub lacks-decides : (set : ℕ) → Decides (lacks-one-site sites n set) (Among n set × (one-site sites n (missing n set) ≡ true))
-  unfolding lacks-one-site
   lacks-decides set = decides-and (among n set) (one-site sites n (missing n set)) (among-decides n set) ((λ e. e), (λ e. e))
 
   pub one-site-words : (set : ℕ) → Decides (one-site sites n set) (OneSite sites n set)
@@ -74,7 +73,6 @@ module _ (sites : List ℕ) (n : ℕ) where
           (w .0, λ s u hs hu. ⊎-elim (λ none. absurd (both-ways _ (none s) hs)) (λ at. at .1 s hs ∙ sym (at .1 u hu)) (w .1))
 
   pub lacks-words : (set : ℕ) → Decides (lacks-one-site sites n set) (LacksOneSite sites n set)
-  unfolding lacks-one-site
   lacks-words set = decides-and (among n set) (one-site sites n (missing n set)) (among-decides n set) (one-site-words (missing n set))
 
   -- ---- the laws
@@ -98,9 +96,9 @@ module _ (sites : List ℕ) (n : ℕ) where
   -- the stations that the larger set lacks are missing from the smaller
   missing-inside : (a b : ℕ) → Inside a b → Inside (missing n b) (missing n a)
   missing-inside a b inside s member =
-      let l = missing-among n b s member in
-      let outside : has b s ≡ false = not-true _ (sym (has-missing-below n b s l) ∙ member) in
-      has-missing-below n a s l ∙ not-from-false _ (false-if-not _ (λ h. both-ways _ outside (inside s h)))
+      let l = missing-among n b room s member in
+      let outside : has b s ≡ false = not-true _ (sym (has-missing-below n b s room l) ∙ member) in
+      has-missing-below n a s room l ∙ not-from-false _ (false-if-not _ (λ h. both-ways _ outside (inside s h)))
 
   pub sites-superset : Superset-quorum n (lacks-one-site sites n)
   sites-superset a b inside mine e =
@@ -116,11 +114,11 @@ module _ (sites : List ℕ) (n : ℕ) where
       not-not false = refl
 
       inner : (s : ℕ) → s < n → has (missing n (missing n a)) s ≡ has a s
-      inner s l = has-missing-below n (missing n a) s l ∙ ap not (has-missing-below n a s l) ∙ not-not (has a s)
+      inner s l = has-missing-below n (missing n a) s room l ∙ ap not (has-missing-below n a s room l) ∙ not-not (has a s)
 
       outer : (s : ℕ) → n ≤ s → has (missing n (missing n a)) s ≡ has a s
       outer s g =
-          false-if-not _ (λ h. let l = missing-among n (missing n a) s h in omega arith)
+          false-if-not _ (λ h. let l = missing-among n (missing n a) room s h in omega arith)
           ∙ sym (false-if-not _ (λ h. let l = mine s h in omega arith))
 
       at : (s : ℕ) → has (missing n (missing n a)) s ≡ has a s
@@ -129,7 +127,7 @@ module _ (sites : List ℕ) (n : ℕ) where
   pub sites-outside : Outside-quorum n (one-site sites n) (lacks-one-site sites n)
   sites-outside a e =
       let mine = one-site-decides a .0 e .0 in
-      lacks-decides (missing n a) .1 (missing-among n a, ap (one-site sites n) (missing-twice a mine) ∙ e)
+      lacks-decides (missing n a) .1 (missing-among n a room, ap (one-site sites n) (missing-twice a mine) ∙ e)
 
   -- ---- two quorums have in common what no one site has
 
@@ -150,7 +148,7 @@ module _ (sites : List ℕ) (n : ℕ) where
   outside-together : (a s u : ℕ) → lacks-one-site sites n a ≡ true → s < n → u < n → has a s ≡ false → has a u ≡ false → site-of sites s ≡ site-of sites u
   outside-together a s u quorum ls lu out-s out-u =
       let w = one-site-decides (missing n a) .0 (lacks-decides a .0 quorum .1) in
-      w .1 s u (has-missing-below n a s ls ∙ ap not out-s) (has-missing-below n a u lu ∙ ap not out-u)
+      w .1 s u (has-missing-below n a s room ls ∙ ap not out-s) (has-missing-below n a u room lu ∙ ap not out-u)
 
   module _ (a b : ℕ) (qa : lacks-one-site sites n a ≡ true) (qb : lacks-one-site sites n b ≡ true) (shared : one-site sites n (common a b) ≡ true) where
     -- stations of one share are at one site
@@ -208,21 +206,3 @@ module _ (sites : List ℕ) (n : ℕ) where
 
   pub sites-overlap : 4 ≤ sites-occurring sites n → Overlap-not-allowed (one-site sites n) (lacks-one-site sites n)
   sites-overlap four a b qa qb = false-if-not _ (λ shared. no-shared-site a b qa qb shared four)
-
-  -- ---- how the code asks
-
-  pub one-site-asked : (set : ℕ) (b : Bool) → among n set ≡ true → b ≡ share-site sites n set → b ≡ one-site sites n set
-  unfolding one-site
-  one-site-asked set b mine e = e ∙ ap (λ m. m && share-site sites n set) (sym mine)
-
-  pub one-site-stranger : (set : ℕ) (b : Bool) → b ≡ among n set → b ≡ false → b ≡ one-site sites n set
-  unfolding one-site
-  one-site-stranger set b e no-one = no-one ∙ sym (and-left (among n set) (share-site sites n set) (sym e ∙ no-one))
-
-  pub lacks-asked : (set : ℕ) (b : Bool) → among n set ≡ true → b ≡ one-site sites n (missing n set) → b ≡ lacks-one-site sites n set
-  unfolding lacks-one-site
-  lacks-asked set b mine e = e ∙ ap (λ m. m && one-site sites n (missing n set)) (sym mine)
-
-  pub lacks-stranger : (set : ℕ) (b : Bool) → b ≡ among n set → b ≡ false → b ≡ lacks-one-site sites n set
-  unfolding lacks-one-site
-  lacks-stranger set b e no-one = no-one ∙ sym (and-left (among n set) (one-site sites n (missing n set)) (sym e ∙ no-one))

@@ -6,20 +6,15 @@ use Prim.Native.Nat.{ℕ, _+_, _≤_, _<_}
 use native.Mathlib.Omega.{arith}
 use lib.Dec.{eqb, ltb}
 use lib.ListN.{length, getD, take, drop}
-use Rattle.std.specs.Orderings.{Decides}
 use Rattle.std.specs.declared.option.Option.{Option}
 use Rattle.std.specs.declared.option.Option.the-variants.{Some, None}
 use Rattle.std.proofs.shelf.Lists.{ext-getD, length-take-le, getD-take, at-drop-more, at-drop-all}
-use Rattle.std.proofs.shelf.Tests.{cond-true, cond-false, eq-eqb, ne-eqb, lt-ltb, le-ltb, false≢true}
+use Rattle.std.proofs.shelf.Tests.{cond-true, cond-false, eq-eqb, ne-eqb, lt-ltb, le-ltb}
 use Rattle.station_set.specs.Sets.{has, among, missing}
 use Rattle.station_set.proofs.Below.{all-same, any-same, count-same}
 use Rattle.quorum.specs.declared.unfit.Unfit.{Unfit}
 use Rattle.quorum.specs.declared.unfit.Unfit.the-variants.{NoStations, TooManyStations, NoSuchSite, TooFewSites}
 use Rattle.quorum.specs.SiteSets.{site-of, share-site, one-site, lacks-one-site, occurs, sites-occurring, bad-site-or, sites-bar}
-
--- no system is made where the limits are broken
-pub not-made : {P : Type 0} → (P → ⊥) → Decides false P
-not-made broken = ((λ e. absurd (false≢true e)), (λ p. absurd (broken p)))
 
 -- ---- the first limit that a list breaks
 
@@ -74,13 +69,12 @@ table-front xs ys le same =
 
 -- lists that agree on the n stations have the same families
 pub same-one-site : (xs ys : List ℕ) (n : ℕ) → ((k : ℕ) → k < n → site-of xs k ≡ site-of ys k) → (set : ℕ) → one-site xs n set ≡ one-site ys n set
-unfolding one-site share-site
+unfolding share-site
 same-one-site xs ys n same set =
     ap (λ t. among n set && t)
     (all-same n _ _ (λ s ls. all-same n _ _ (λ u lu. ap (λ k. not (has set s && has set u) || eqb k (site-of xs u)) (same s ls) ∙ ap (λ k. not (has set s && has set u) || eqb (site-of ys s) k) (same u lu))))
 
 pub same-lacks : (xs ys : List ℕ) (n : ℕ) → ((k : ℕ) → k < n → site-of xs k ≡ site-of ys k) → (set : ℕ) → lacks-one-site xs n set ≡ lacks-one-site ys n set
-unfolding lacks-one-site
 same-lacks xs ys n same set = ap (λ t. among n set && t) (same-one-site xs ys n same (missing n set))
 
 pub same-sites : (xs ys : List ℕ) (n : ℕ) → ((k : ℕ) → k < n → site-of xs k ≡ site-of ys k) → sites-occurring xs n ≡ sites-occurring ys n

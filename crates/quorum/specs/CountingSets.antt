@@ -4,24 +4,29 @@ use Prim.Native.Nat.{ℕ, _-_, _*_, _≤_, _<_}
 use lib.Dec.{eqb, leb, ltb}
 use Rattle.std.specs.declared.option.Option.{Option}
 use Rattle.std.specs.declared.option.Option.the-variants.{Some, None}
-use Rattle.station_set.specs.Sets.{Among, among, members}
+use Rattle.std.specs.Orderings.{Decides}
+use Rattle.station_set.specs.Below.{count-below}
+use Rattle.station_set.specs.Sets.{has, Among, among, members}
 use Rattle.quorum.specs.declared.unfit.Unfit.{Unfit}
 use Rattle.quorum.specs.declared.unfit.Unfit.the-variants.{NoStations, TooManyStations, TooManyFaults}
 
 -- at most t of the n stations
-unfoldable pub at-most : ℕ → ℕ → ℕ → Bool
-at-most n t set = among n set && leb (members n set) t
+abbrev pub at-most : ℕ → ℕ → ℕ → Bool
+at-most n t set = among n set && leb (members set) t
 
 -- at least n - t of the n stations
-unfoldable pub all-but : ℕ → ℕ → ℕ → Bool
-all-but n t set = among n set && leb (n - t) (members n set)
+abbrev pub all-but : ℕ → ℕ → ℕ → Bool
+all-but n t set = among n set && leb (n - t) (members set)
 
--- the same in words
+-- The same in words: each member is one of the n stations, and of these at most t, or at least n - t, are members.
 abbrev pub AtMost : ℕ → ℕ → ℕ → Type 0
-AtMost n t set = Among n set × (members n set ≤ t)
+AtMost n t set = Among n set × (count-below n (has set) ≤ t)
 
 abbrev pub AllBut : ℕ → ℕ → ℕ → Type 0
-AllBut n t set = Among n set × (n - t ≤ members n set)
+AllBut n t set = Among n set × (n - t ≤ count-below n (has set))
+
+abbrev pub Counting-in-words : Type 0
+Counting-in-words = (n t set : ℕ) → Decides (at-most n t set) (AtMost n t set) × Decides (all-but n t set) (AllBut n t set)
 
 -- the limits of the figures
 abbrev pub Counting-limits : ℕ → ℕ → Type 0

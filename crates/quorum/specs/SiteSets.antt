@@ -8,6 +8,7 @@ use lib.Dec.{eqb, leb, ltb}
 use lib.ListN.{length, getD}
 use Rattle.std.specs.declared.option.Option.{Option}
 use Rattle.std.specs.declared.option.Option.the-variants.{Some, None}
+use Rattle.std.specs.Orderings.{Decides}
 use Rattle.station_set.specs.Below.{all-below, any-below, count-below}
 use Rattle.station_set.specs.Sets.{has, Among, among, missing}
 use Rattle.quorum.specs.declared.unfit.Unfit.{Unfit}
@@ -22,11 +23,11 @@ share-site sites n set =
     all-below n (λ s. all-below n (λ u. not (has set s && has set u) || eqb (site-of sites s) (site-of sites u)))
 
 -- a set of the n stations that is empty or whose members share one site
-unfoldable pub one-site : List ℕ → ℕ → ℕ → Bool
+abbrev pub one-site : List ℕ → ℕ → ℕ → Bool
 one-site sites n set = among n set && share-site sites n set
 
 -- a set of the n stations whose missing stations are empty or share one site
-unfoldable pub lacks-one-site : List ℕ → ℕ → ℕ → Bool
+abbrev pub lacks-one-site : List ℕ → ℕ → ℕ → Bool
 lacks-one-site sites n set = among n set && one-site sites n (missing n set)
 
 -- the same in words: the set is empty, or there is a site at which each member stands
@@ -36,6 +37,11 @@ OneSite sites n set =
 
 abbrev pub LacksOneSite : List ℕ → ℕ → ℕ → Type 0
 LacksOneSite sites n set = Among n set × OneSite sites n (missing n set)
+
+abbrev pub Sites-in-words : Type 0
+Sites-in-words =
+    (sites : List ℕ) (n set : ℕ) → n ≤ 16
+    → Decides (one-site sites n set) (OneSite sites n set) × Decides (lacks-one-site sites n set) (LacksOneSite sites n set)
 
 -- whether one of the n stations stands at site k
 abbrev pub occurs : List ℕ → ℕ → ℕ → Bool

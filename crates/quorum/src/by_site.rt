@@ -3,11 +3,13 @@ ghost use mathlib.Core.Path.{_≡_};
 ghost use mathlib.Core.Bool.{true};
 ghost use Prim.Native.Nat.{ℕ, _<_, _≤_};
 ghost use lib.ListN.{length, take};
+ghost use Rattle.std.specs.Options.{Cases};
 ghost use Rattle.std.specs.Orderings.{Decides};
 ghost use Rattle.std.specs.Results.{isOk};
+ghost use Rattle.decline.specs.Numbers.{number-of};
 ghost use Rattle.station_set.specs.Sets.{has};
-ghost use Rattle.quorum.specs.SiteSets.{site-of, share-site, one-site, lacks-one-site, OneSite, LacksOneSite, occurs, sites-occurring, SiteLimits, sites-bar};
-ghost use Rattle.quorum.specs.Reasons.{MadeUnless};
+ghost use Rattle.quorum.specs.SiteSets.{site-of, share-site, one-site, lacks-one-site, Sites-in-words, occurs, sites-occurring, SiteLimits, sites-bar};
+ghost use Rattle.quorum.specs.Reasons.{decline-of, MadeUnless};
 use crate::QuorumSystem;
 use crate::unfit::Unfit;
 use station_set::contains;
@@ -74,32 +76,55 @@ fn count_sites(sites: &[u64]) -> usize
     count
 }
 
+// The first limit that the list breaks.
+fn first_bar(sites: &[u64]) -> Option<Unfit>
+    ensures bar { λ r. ⌜ r ≡ sites-bar (now (sites .entry)) ⌝ }
+    ensures limits { λ r. ⌜ Cases r (SiteLimits (now (sites .entry))) (λ reason. (SiteLimits (now (sites .entry)) → ⊥) × (number-of (decline-of reason) ≡ 14)) ⌝ }
+{
+    if sites.is_empty() {
+        return Some(Unfit::NoStations);
+    }
+    if sites.len() > 10 {
+        return Some(Unfit::TooManyStations);
+    }
+    for site in sites {
+        if *site >= SITES {
+            return Some(Unfit::NoSuchSite(*site));
+        }
+    }
+    if count_sites(sites) < 4 {
+        return Some(Unfit::TooFewSites);
+    }
+    None
+}
+
+// The table of the sites.
+fn table_of(sites: &[u64]) -> [u8; 10]
+    requires { ⌜ length (now sites) ≤ 10 ⌝ ∗ ⌜ ((s : ℕ) → s < length (now sites) → site-of (now sites) s < 10) ⌝ }
+    ensures whole { λ r. ⌜ length r ≡ 10 ⌝ }
+    ensures front { λ r. ⌜ take (length (now (sites .entry))) r ≡ now (sites .entry) ⌝ }
+    ensures occurring { λ r. ⌜ sites-occurring r (length (now (sites .entry))) ≡ sites-occurring (now (sites .entry)) (length (now (sites .entry))) ⌝ }
+{
+    let mut table = [0; 10];
+    for (s, site) in sites.iter().enumerate() {
+        table[s] = *site as u8;
+    }
+    table
+}
+
 impl BySite {
     // The system whose station s stands at the site `sites[s]`; at least four sites occur.
     pub fn new(sites: &[u64]) -> Result<BySite, Unfit>
         ensures answer { λ r. ⌜ MadeUnless (sites-bar (now (sites .entry))) (λ q. (q .n ≡ length (now (sites .entry))) × (take (q .n) (q .sites) ≡ now (sites .entry))) r ⌝ }
         ensures limits { λ r. ⌜ Decides (isOk r) (SiteLimits (now (sites .entry))) ⌝ }
     {
-        if sites.is_empty() {
-            return Err(Unfit::NoStations);
+        match first_bar(sites) {
+            Some(reason) => Err(reason),
+            None => Ok(BySite {
+                n: sites.len(),
+                sites: table_of(sites),
+            }),
         }
-        if sites.len() > 10 {
-            return Err(Unfit::TooManyStations);
-        }
-        let mut table = [0; 10];
-        for (s, site) in sites.iter().enumerate() {
-            if *site >= SITES {
-                return Err(Unfit::NoSuchSite(*site));
-            }
-            table[s] = *site as u8;
-        }
-        if count_sites(sites) < 4 {
-            return Err(Unfit::TooFewSites);
-        }
-        Ok(BySite {
-            n: sites.len(),
-            sites: table,
-        })
     }
 }
 
@@ -114,17 +139,16 @@ pub impl QuorumSystem for BySite as BySiteQuorumSystem {
         self.n
     }
 
-    fn is_allowed(&self, set: u16) -> bool
-        ensures family { λ r. ⌜ r ≡ one-site (now (self .entry) .sites) (now (self .entry) .n) set ⌝ }
-        ensures words { λ r. ⌜ Decides r (OneSite (now (self .entry) .sites) (now (self .entry) .n) set) ⌝ }
-    {
+    fn is_allowed(&self, set: u16) -> bool {
         is_among(self.n, set) && shares_site(&self.sites, self.n, set)
     }
 
-    fn is_quorum(&self, set: u16) -> bool
-        ensures family { λ r. ⌜ r ≡ lacks-one-site (now (self .entry) .sites) (now (self .entry) .n) set ⌝ }
-        ensures words { λ r. ⌜ Decides r (LacksOneSite (now (self .entry) .sites) (now (self .entry) .n) set) ⌝ }
-    {
+    fn is_quorum(&self, set: u16) -> bool {
         is_among(self.n, set) && self.is_allowed(missing(self.n, set))
     }
 }
+
+// Does nothing: its contract says in words which sets are allowed, and which are quorums.
+pub fn sites_in_words()
+    ensures { λ _. ⌜ Sites-in-words ⌝ }
+{}

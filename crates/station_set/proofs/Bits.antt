@@ -6,7 +6,7 @@ use Prim.Native.Nat.{ℕ, zero, suc, min, max, _+_, _-_, _*_, _/_, _%_, _^_, _�
 use native.Mathlib.Nat.{pow-suc, div-one, zero-div, div-eq-of-lt, lt-of-lt-of-le}
 use native.Mathlib.Omega.{arith}
 use native.Mathlib.Numerals.{one-add}
-use lib.Bits.{bitAnd, bitOr, and-step, or-step, and-shr, or-shr}
+use lib.Bits.{bitAnd, bitOr, bitXor, and-step, or-step, and-shr, or-shr, xor-shr, xor-add-and}
 use lib.Count.{ones, ones-step, ones-le}
 use lib.Dec.{eqb}
 use lib.Pow.{pow-pos, pow-mono}
@@ -39,6 +39,9 @@ bit-and a b s = let x = a / 2 ^ s in let y = b / 2 ^ s in omega (arith, and-shr 
 
 pub bit-or : (a b s : ℕ) → bit (bitOr a b) s ≡ max (bit a s) (bit b s)
 bit-or a b s = let x = a / 2 ^ s in let y = b / 2 ^ s in omega (arith, or-shr a b s, or-step x y)
+
+pub bit-xor : (a b s : ℕ) → bit (bitXor a b) s ≡ (bit a s + bit b s) % 2
+bit-xor a b s = let x = a / 2 ^ s in let y = b / 2 ^ s in omega (arith, xor-shr a b s, xor-add-and x y)
 
 -- what stands above bit n leaves the bits below it alone
 pub bit-low : (c n a s : ℕ) → s < n → bit (c * 2 ^ n + a) s ≡ bit a s

@@ -1,18 +1,24 @@
 -- What words spell.
 use mathlib.Core.Path.{_≡_, refl, sym, ap, subst, _∙_}
+use mathlib.Core.Bool.{Bool, true, false, cond}
 use mathlib.Core.List.{List, [], _∷_, _++_, map}
 use Prim.Native.Nat.{ℕ, zero, suc, _+_, _≤_, _<_}
 use native.Mathlib.Omega.{arith}
 use lib.Chars.{codes}
+use lib.Dec.{eqb}
 use lib.ListN.{length, getD, take, drop}
 use Rattle.std.specs.Of.String.{string-bytes}
 use Rattle.std.specs.Of.Vec.{vec-items}
 use Rattle.std.specs.declared.alloc.Global.{Global}
 use Rattle.std.specs.declared.string.String.{String}
+use Rattle.std.specs.Results.{Cases}
+use Rattle.std.specs.declared.result.Result.the-variants.{Ok, Err}
+use Rattle.std.proofs.shelf.Tests.{eqb-true, eqb-false}
 use Rattle.std.proofs.shelf.Lists.{take-more, map-append, getD-map}
 use Rattle.survey_text.specs.declared.request.Request.{Request}
 use Rattle.survey_text.specs.declared.request.Request.the-variants.{Counting, Sites}
-use Rattle.survey_text.specs.Asked.{words-of, Spells, SpellAll, Asks}
+use Rattle.survey_text.specs.declared.request.ArgumentError.the-variants.{Unreadable}
+use Rattle.survey_text.specs.Asked.{words-of, Spells, SpellAll, Asks, AsksNothing, counting-request}
 
 pub spell-all-push : (words : List (List ℕ)) (ns : List ℕ) (word : List ℕ) (n : ℕ) → SpellAll words ns → Spells word n → SpellAll (words ++ word ∷ []) (ns ++ n ∷ [])
 spell-all-push [] [] word n h s = (s, tt)
@@ -78,9 +84,23 @@ unreadable-ask-nothing first rest none (Counting n t) h =
 unreadable-ask-nothing first rest none (Sites v) h =
     none (vec-items v) (subst (λ (ws : List (List ℕ)). SpellAll ws (vec-items v)) (sym (ap (drop 1) (h .1))) (h .3))
 
--- nor does another first word, or `counting` with more or fewer than two numbers
+-- nor does another first word
 pub other-asks-nothing : (first : List ℕ) (rest : List (List ℕ)) → (first ≡ codes "counting" → length rest ≡ 2 → ⊥) → (first ≡ codes "sites" → ⊥)
     → (request : Request) → Asks (first ∷ rest) request → ⊥
 other-asks-nothing first rest counting sites (Counting n t) h =
     counting (ap (λ ws. getD ws 0 []) (h .2)) (ap (λ ws. length (drop 1 ws)) (h .2))
 other-asks-nothing first rest counting sites (Sites v) h = sites (ap (λ ws. getD ws 0 []) (h .1))
+
+-- what `counting` and its numbers ask for: two numbers, and else nothing
+pub counting-asked : (first : List ℕ) (rest : List (List ℕ)) (ns : List ℕ) → first ≡ codes "counting" → SpellAll rest ns
+    → Cases (counting-request ns) (Asks (first ∷ rest)) (AsksNothing (first ∷ rest))
+counting-asked first rest ns e all = by (eqb (length ns) 2) refl
+  where
+    not-sites : codes "counting" ≡ codes "sites" → ⊥
+    not-sites e = let z : _≡_ {A = ℕ} 99 115 = ap (λ w. getD w 0 0) e in omega arith
+
+    by : (b : Bool) → eqb (length ns) 2 ≡ b
+        → Cases (cond b (Ok (Counting (getD ns 0 0) (getD ns 1 0))) (Err Unreadable)) (Asks (first ∷ rest)) (AsksNothing (first ∷ rest))
+    by true two = asks-counting first rest ns e all (eqb-true (length ns) 2 two)
+    by false more =
+        other-asks-nothing first rest (λ _ two. eqb-false (length ns) 2 more (sym (spell-all-length rest ns all) ∙ two)) (λ s. not-sites (sym e ∙ s))

@@ -1,13 +1,17 @@
 -- What the program's arguments ask for.
 use mathlib.Core.Path.{_≡_}
+use mathlib.Core.Bool.{cond}
 use mathlib.Core.List.{List, [], _∷_, map}
 use Prim.Native.Nat.{ℕ, _^_, _<_}
 use lib.Chars.{codes}
-use lib.ListN.{length}
+use lib.Dec.{eqb}
+use lib.ListN.{length, getD}
 use Rattle.std.specs.Of.String.{string-bytes}
 use Rattle.std.specs.Of.Vec.{vec-items}
 use Rattle.std.specs.Reads.{Numeral, value, afterPlus}
 use Rattle.std.specs.declared.alloc.Global.{Global}
+use Rattle.std.specs.declared.result.Result.{Result}
+use Rattle.std.specs.declared.result.Result.the-variants.{Ok, Err}
 use Rattle.std.specs.declared.string.String.{String}
 use Rattle.survey_text.specs.declared.request.Request.{Request}
 use Rattle.survey_text.specs.declared.request.Request.the-variants.{Counting, Sites}
@@ -42,3 +46,7 @@ Asks words (Sites sites) = (rest : List (List ℕ)) × (words ≡ codes "sites" 
 abbrev pub AsksNothing : List (List ℕ) → ArgumentError → Type 0
 AsksNothing words Unreadable = (request : Request) → Asks words request → ⊥
 AsksNothing words NoMemory = Unit {0}
+
+-- the request of `counting`, by the numbers after it
+abbrev pub counting-request : List ℕ → Result Request ArgumentError
+counting-request ns = cond (eqb (length ns) 2) (Ok (Counting (getD ns 0 0) (getD ns 1 0))) (Err Unreadable)

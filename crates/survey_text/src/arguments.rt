@@ -2,7 +2,7 @@
 ghost use mathlib.Core.Path.{_≡_};
 ghost use Rattle.std.specs.Of.Vec.{vec-items};
 ghost use Rattle.std.specs.Results.{Cases};
-ghost use Rattle.survey_text.specs.Asked.{words-of, Spells, SpellAll, Asks, AsksNothing, SpellsNone};
+ghost use Rattle.survey_text.specs.Asked.{words-of, Spells, SpellAll, Asks, AsksNothing, SpellsNone, counting-request};
 use crate::request::AllocArgumentError;
 use crate::request::ArgumentError;
 use crate::request::RefusedArgumentError;
@@ -22,6 +22,17 @@ fn read_numbers(heap: Global, words: &[String]) -> Result<Vec<u64>, ArgumentErro
     Ok(numbers)
 }
 
+// `counting` asks for two numbers.
+fn counting_request(numbers: &[u64]) -> Result<Request, ArgumentError>
+    ensures { λ r. ⌜ r ≡ counting-request (now (numbers .entry)) ⌝ }
+{
+    if numbers.len() == 2 {
+        Ok(Request::Counting(numbers[0], numbers[1]))
+    } else {
+        Err(ArgumentError::Unreadable)
+    }
+}
+
 pub fn read_request(heap: Global, words: &[String]) -> Result<Request, ArgumentError>
     ensures { λ r. ⌜ Cases r (Asks (words-of (now (words .entry)))) (AsksNothing (words-of (now (words .entry)))) ⌝ }
 {
@@ -30,8 +41,8 @@ pub fn read_request(heap: Global, words: &[String]) -> Result<Request, ArgumentE
     }
     let numbers = read_numbers(heap, &words[1..])?;
     let kind = words[0].as_str();
-    if kind == "counting" && numbers.len() == 2 {
-        return Ok(Request::Counting(numbers[0], numbers[1]));
+    if kind == "counting" {
+        return counting_request(numbers.as_slice());
     }
     if kind == "sites" {
         return Ok(Request::Sites(numbers));

@@ -1,12 +1,12 @@
 //! Kinds of value that a register can hold.
 ghost use mathlib.Core.Path.{_≡_};
-ghost use mathlib.Core.Bool.{Bool};
+ghost use mathlib.Core.Bool.{Bool, cond};
 ghost use Prim.Native.Nat.{ℕ, _<_, _≤_};
 ghost use denote.Ref.{now};
 ghost use lib.ListN.{getD};
 ghost use Rattle.std.specs.Orderings.{Decides};
 ghost use Rattle.std.specs.declared.option.Option.the-variants.{Some, None};
-ghost use Rattle.station_set.specs.Sets.{has};
+ghost use Rattle.station_set.specs.Sets.{has, with-station};
 ghost use Rattle.value.specs.Tallies.{same-number, same-tally};
 ghost use Rattle.value.specs.Holders.{keeps, holders-of};
 use station_set::ROOM;
@@ -86,6 +86,17 @@ fn is_kept<V: Value>(kept: Option<V>, v: V) -> bool
     }
 }
 
+// The set, with station s where what it keeps is v.
+fn with_holder<V: Value>(set: u16, s: usize, kept: Option<V>, v: V) -> u16
+    ensures { λ r. ⌜ r ≡ cond (keeps (V·Value .equal) v kept) (with-station set s) set ⌝ }
+{
+    if is_kept(kept, v) {
+        insert(set, s)
+    } else {
+        set
+    }
+}
+
 // The set of the stations whose kept value is v, where `row[s]` is what station s keeps.
 pub fn holders<V: Value>(row: &[Option<V>], v: V) -> u16
     ensures value { λ r. ⌜ r ≡ holders-of (V·Value .equal) v (now (row .entry)) ⌝ }
@@ -93,9 +104,7 @@ pub fn holders<V: Value>(row: &[Option<V>], v: V) -> u16
 {
     let mut set = 0;
     for s in 0..row.len().min(ROOM) {
-        if is_kept(row[s], v) {
-            set = insert(set, s);
-        }
+        set = with_holder(set, s, row[s], v);
     }
     set
 }

@@ -2,23 +2,21 @@ use mathlib.Core.Path.{_≡_, refl, sym, ap, subst, _∙_}
 use mathlib.Core.List.{List, [], _∷_}
 use native.Mathlib.Omega.{arith}
 use Prim.Native.Nat.{ℕ, _≤_, _<_}
-use denote.Ref.{now}
 use lib.Chars.{codes}
-use lib.ListN.{length, getD, drop}
+use lib.ListN.{length, drop}
 use Rattle.std.specs.Of.String.{string-bytes}
 use Rattle.std.specs.Of.Vec.{vec-items}
 use Rattle.std.specs.declared.alloc.Global.{Global}
 use Rattle.std.specs.declared.string.String.{String}
-use Rattle.std.proofs.shelf.Lists.{getD-read, length-map, length-drop, take-rest}
+use Rattle.std.specs.Results.{Cases}
+use Rattle.std.proofs.shelf.Lists.{length-map, length-drop, take-rest}
 use Rattle.std.proofs.shelf.Results.{err-from-errBy}
 use Rattle.std.proofs.shelf.Tests.{false≢true}
 use Rattle.survey_text.specs.declared.request.ArgumentError.{ArgumentError}
 use Rattle.survey_text.specs.declared.request.ArgumentError.the-variants.{Unreadable, NoMemory}
-use Rattle.survey_text.specs.declared.request.Request.the-variants.{Counting}
-use Rattle.survey_text.specs.Asked.{words-of, SpellAll, SpellsNone, Asks, AsksNothing}
-use Rattle.survey_text.proofs.Spelled.{spell-all-length, words-split, asks-counting, few-ask-nothing, unreadable-ask-nothing, other-asks-nothing}
+use Rattle.survey_text.specs.Asked.{words-of, SpellAll, SpellsNone, Asks, AsksNothing, counting-request}
+use Rattle.survey_text.proofs.Spelled.{words-split, counting-asked, few-ask-nothing, unreadable-ask-nothing, other-asks-nothing}
 use Rattle.survey_text.proofs.arguments.read_request.Needs as need
-use Rattle.survey_text.proofs.arguments.read_request.Needs.{else-eq·by·then-eq·else-len-eq2, else-eq·by·else-eq}
 
 pub returns-then-words-lt2 : need.returns-then-words-lt2
 returns-then-words-lt2 c = few-ask-nothing (words-of (c .args .words .now)) (omega (arith, length-map (c .args .words .now) string-bytes))
@@ -37,22 +35,18 @@ returns-in-Break-numbers c =
     let p = err-from-errBy (c .from-residual .result) (c .from-residual .ensures .1) in
     rw (p .1, p .2) (passed-on words (omega arith) error none)
 
-pub returns-then-len-eq2 : need.returns-then-len-eq2
-returns-then-len-eq2 c =
+pub returns-then-eq : need.returns-then-eq
+returns-then-eq c =
     let words = c .args .words .now in
     let x = c .index-words-0 .result in
-    let numbers = c .in-Continue-numbers .numbers in
-    let ns = vec-items numbers in
-    let all : SpellAll (words-of (drop 1 words)) ns = subst (λ ws. SpellAll (words-of ws) ns) (take-rest words 1) (c .in-Continue-numbers .ensures tt) in
+    let ns = vec-items (c .in-Continue-numbers .numbers) in
+    let rest = words-of (drop 1 words) in
+    let all : SpellAll rest ns = subst (λ ws. SpellAll (words-of ws) ns) (take-rest words 1) (c .in-Continue-numbers .ensures tt) in
     let first : string-bytes x ≡ codes "counting" = sym (c .as-str-kind .ensures .value) ∙ c .if-eq .ensures tt .0 refl in
-    let two : length ns ≡ 2 = omega (arith, numbers .ok .0) in
-    let split : words-of words ≡ string-bytes x ∷ words-of (drop 1 words) = words-split words x (omega arith) (c .index-words-0 .is) in
-    let at-0 : getD ns 0 0 ≡ now (c .index .result) = sym (getD-read ns 0 _ (omega arith) (c .index .ensures) 0) in
-    let at-1 : getD ns 1 0 ≡ now (c .index-then-len-eq2 .result) = sym (getD-read ns 1 _ (omega arith) (c .index-then-len-eq2 .ensures) 0) in
-    let asked = asks-counting (string-bytes x) (words-of (drop 1 words)) ns first all two in
-    let by-0 = subst (λ (k : ℕ). Asks (string-bytes x ∷ words-of (drop 1 words)) (Counting k (getD ns 1 0))) at-0 asked in
-    let by-1 = subst (λ (k : ℕ). Asks (string-bytes x ∷ words-of (drop 1 words)) (Counting (now (c .index .result)) k)) at-1 by-0 in
-    subst (λ (ws : List (List ℕ)). Asks ws (Counting (now (c .index .result)) (now (c .index-then-len-eq2 .result)))) (sym split) by-1
+    let split : words-of words ≡ string-bytes x ∷ rest = words-split words x (omega arith) (c .index-words-0 .is) in
+    let said : c .counting-request .result ≡ counting-request ns = c .counting-request .ensures ∙ ap counting-request (c .as-slice .ensures .value) in
+    let asked = subst (λ (ws : List (List ℕ)). Cases (counting-request ns) (Asks ws) (AsksNothing ws)) (sym split) (counting-asked (string-bytes x) rest ns first all) in
+    subst (λ r. Cases r (Asks (words-of words)) (AsksNothing (words-of words))) (sym said) asked
 
 pub returns-then-eq-2 : need.returns-then-eq-2
 returns-then-eq-2 c =
@@ -69,17 +63,9 @@ pub returns : need.returns
 returns c =
     let words = c .args .words .now in
     let x = c .index-words-0 .result in
-    let numbers = c .in-Continue-numbers .numbers in
-    let ns = vec-items numbers in
     let rest = words-of (drop 1 words) in
-    let all : SpellAll rest ns = subst (λ ws. SpellAll (words-of ws) ns) (take-rest words 1) (c .in-Continue-numbers .ensures tt) in
-    let as-many = spell-all-length rest ns all in
     let kind = c .as-str-kind .ensures .value in
-    let not-counting : string-bytes x ≡ codes "counting" → length rest ≡ 2 → ⊥ = λ e two.
-    elim (c .else-eq .came) [
-      | else-eq·by·then-eq·else-len-eq2 w ↦ w .if-len-eq2 .left (omega (arith, numbers .ok .0, w .len .ensures))
-      | else-eq·by·else-eq w ↦ false≢true (w .if-eq .ensures tt .1 (kind ∙ e))
-    ] in
+    let not-counting : string-bytes x ≡ codes "counting" → length rest ≡ 2 → ⊥ = λ e _. false≢true (c .if-eq .ensures tt .1 (kind ∙ e)) in
     let not-sites : string-bytes x ≡ codes "sites" → ⊥ = λ e. false≢true (c .if-eq-2 .ensures tt .1 (kind ∙ e)) in
     let split : words-of words ≡ string-bytes x ∷ rest = words-split words x (omega arith) (c .index-words-0 .is) in
     λ request asks. other-asks-nothing (string-bytes x) rest not-counting not-sites request (subst (λ (ws : List (List ℕ)). Asks ws request) split asks)

@@ -1,3 +1,4 @@
+use native.Mathlib.Omega.{arith}
 use Rattle.quorum.proofs.CountingLaws.{counting-bounded, counting-seated, counting-empty, counting-subset, counting-superset, counting-overlap, counting-outside}
 use Rattle.quorum.proofs.counting.CountingQuorumSystem.the-impl.Needs as need
 
@@ -20,4 +21,4 @@ pub overlap-law : need.overlap-law
 overlap-law q = counting-overlap (q .n) (q .t) (q .faults)
 
 pub outside-law : need.outside-law
-outside-law q = counting-outside (q .n) (q .t)
+outside-law q = counting-outside (q .n) (q .t) (omega arith)
