@@ -1,12 +1,12 @@
 -- A loop that lists, by rising masks, the sets of which P holds.
-use mathlib.Core.Path.{_≡_, refl, sym, ap, subst, _∙_}
+use mathlib.Core.Path.{_≡_, refl, sym, subst, _∙_}
 use mathlib.Core.List.{List, [], _∷_, _++_}
 use mathlib.Core.Logic.{⊎-elim}
-use Prim.Native.Nat.{ℕ, _+_, _≤_, _<_}
+use Prim.Native.Nat.{ℕ, _+_, _<_}
 use native.Mathlib.Omega.{arith}
 use lib.ListN.{length, getD}
 use Rattle.std.proofs.shelf.Lists.{length-push, getD-push, getD-append-left}
-use Rattle.std.proofs.shelf.Tests.{cases-eq, cases-lt}
+use Rattle.std.proofs.shelf.Tests.{cases-eq}
 use Rattle.census.specs.Outermost.{Exactly}
 
 -- the sets below k of which P holds
@@ -17,15 +17,6 @@ pub record Listed (P : ℕ → Type 0) (k : ℕ) (sets : List ℕ) : Type 0 wher
   pub complete : (set : ℕ) → set < k → P set → (i : ℕ) × (i < length sets) × (getD sets i 0 ≡ set)
 
 module _ (P : ℕ → Type 0) where
-  pub listed-none : Listed P 0 []
-  listed-none =
-      record {
-        rising = λ i j _ h. absurd (omega arith);
-        small = λ i h. absurd (omega arith);
-        sound = λ i h. absurd (omega arith);
-        complete = λ set h _. absurd (omega arith);
-      }
-
   pub listed-no : (k : ℕ) (sets : List ℕ) → (P k → ⊥) → Listed P k sets → Listed P (k + 1) sets
   listed-no k sets fails l =
       record {

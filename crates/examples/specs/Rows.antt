@@ -6,7 +6,6 @@ use Prim.Native.Nat.{ℕ}
 use lib.ListN.{length}
 use Rattle.std.specs.Options.{mapped}
 use Rattle.std.specs.declared.option.Option.{Option}
-use Rattle.std.specs.declared.option.Option.the-variants.{Some, None}
 use Rattle.decline.specs.Numbers.{number-of}
 use Rattle.station_set.specs.Sets.{union, single}
 use Rattle.quorum.specs.declared.unfit.Unfit.{Unfit}

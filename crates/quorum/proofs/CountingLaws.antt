@@ -1,13 +1,11 @@
 -- The laws of a quorum system, of the sets with few and with many members.
-use mathlib.Core.Path.{_≡_, refl, sym, ap, _∙_}
-use mathlib.Core.Bool.{Bool, true, false, not, _&&_, _||_}
-use Prim.Native.Nat.{ℕ, _+_, _-_, _*_, _≤_, _<_}
+use mathlib.Core.Bool.{not, _&&_, _||_}
+use Prim.Native.Nat.{ℕ, _-_, _*_, _≤_, _<_}
 use native.Mathlib.Omega.{arith}
 use lib.Dec.{leb}
 use Rattle.std.specs.Orderings.{Decides}
 use Rattle.std.proofs.shelf.Tests.{both-ways, and-parts, and-from, leb-true, le-leb}
-use Rattle.station_set.specs.Below.{count-below}
-use Rattle.station_set.specs.Sets.{has, Inside, Among, among, union, common, missing, members}
+use Rattle.station_set.specs.Sets.{has, among, common, missing, members}
 use Rattle.station_set.proofs.Below.{count-le, count-no, count-mono, count-same, count-both-either, count-opposite}
 use Rattle.station_set.proofs.Members.{among-decides, has-none, has-common, has-missing-below, missing-among, members-below}
 use Rattle.station_set.proofs.Below.{false-if-not}

@@ -1,12 +1,12 @@
 -- What the five laws give, for every system.
-use mathlib.Core.Path.{_≡_, sym, ap, _∙_}
+use mathlib.Core.Path.{sym, ap, _∙_}
 use mathlib.Core.Logic.{⊎-elim}
-use mathlib.Core.Bool.{Bool, true, false, not, _&&_}
-use Prim.Native.Nat.{ℕ, _<_}
+use mathlib.Core.Bool.{not, _&&_}
+use Prim.Native.Nat.{ℕ}
 use lib.Bits.{and-self}
 use Rattle.std.proofs.shelf.Tests.{cases-bool, both-ways, and-parts, and-from, not-true, not-from-false}
 use Rattle.station_set.specs.Sets.{has, Inside, Among, common, missing}
-use Rattle.station_set.proofs.Below.{false-if-not, search-below}
+use Rattle.station_set.proofs.Below.{search-below}
 use Rattle.station_set.proofs.Members.{has-common, has-missing-below, missing-among}
 use Rattle.quorum.specs.Laws.{Family, Laws}
 use Rattle.quorum.specs.Consequences.{Quorum-not-allowed, Quorums-share-outside, Including-outside-quorum}

@@ -1,5 +1,5 @@
 -- The laws of a quorum system, of the sets at one site and those that lack one site at most.
-use mathlib.Core.Path.{_≡_, refl, sym, ap, subst, _∙_}
+use mathlib.Core.Path.{_≡_, refl, sym, ap, _∙_}
 use mathlib.Core.Logic.{_⊎_, inl, inr, ⊎-elim}
 use mathlib.Core.Bool.{Bool, true, false, not, cond, _&&_, _||_}
 use mathlib.Core.List.{List}
@@ -9,7 +9,6 @@ use lib.Dec.{eqb}
 use Rattle.std.specs.Orderings.{Decides}
 use Rattle.std.proofs.shelf.Tests.{cases-lt, both-ways, eqb-true, eq-eqb, and-parts, and-from, not-true, not-from-false}
 use Rattle.std.proofs.shelf.Ways.{decides-and, decides-like}
-use Rattle.station_set.specs.Below.{all-below}
 use Rattle.station_set.specs.Sets.{has, Inside, Among, among, common, missing}
 use Rattle.station_set.proofs.Below.{false-if-not, all-below-decides, any-below-decides, search-below, count-top}
 use Rattle.station_set.proofs.Members.{among-decides, same-members, has-none, has-common, has-missing-below, missing-among}

@@ -1,8 +1,8 @@
 -- What the five laws give, for every system: the three facts that the order of operations rests on.
 use mathlib.Core.Path.{_≡_}
-use mathlib.Core.Bool.{Bool, true, false}
+use mathlib.Core.Bool.{true, false}
 use Prim.Native.Nat.{ℕ, _<_}
-use Rattle.station_set.specs.Sets.{has, Inside, Among, missing}
+use Rattle.station_set.specs.Sets.{has, Among}
 use Rattle.quorum.specs.Laws.{Family}
 
 -- A quorum is not allowed.

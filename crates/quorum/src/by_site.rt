@@ -10,6 +10,7 @@ ghost use Rattle.decline.specs.Numbers.{number-of};
 ghost use Rattle.station_set.specs.Sets.{has};
 ghost use Rattle.quorum.specs.SiteSets.{site-of, share-site, one-site, lacks-one-site, Sites-in-words, occurs, sites-occurring, SiteLimits, sites-bar};
 ghost use Rattle.quorum.specs.Reasons.{decline-of, MadeUnless};
+use crate::MOST_STATIONS;
 use crate::QuorumSystem;
 use crate::unfit::Unfit;
 use station_set::contains;
@@ -18,6 +19,9 @@ use station_set::missing;
 
 // Site numbers are 0 to 9.
 const SITES: u64 = 10;
+
+// So many different sites have to occur.
+const FEWEST_SITES: usize = 4;
 
 // Station s stands at the site `sites[s]`; the places from n up are not used.
 #[derive(Clone, Copy)]
@@ -84,7 +88,7 @@ fn first_bar(sites: &[u64]) -> Option<Unfit>
     if sites.is_empty() {
         return Some(Unfit::NoStations);
     }
-    if sites.len() > 10 {
+    if sites.len() > MOST_STATIONS {
         return Some(Unfit::TooManyStations);
     }
     for site in sites {
@@ -92,7 +96,7 @@ fn first_bar(sites: &[u64]) -> Option<Unfit>
             return Some(Unfit::NoSuchSite(*site));
         }
     }
-    if count_sites(sites) < 4 {
+    if count_sites(sites) < FEWEST_SITES {
         return Some(Unfit::TooFewSites);
     }
     None

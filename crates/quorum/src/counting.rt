@@ -5,6 +5,7 @@ ghost use Rattle.std.specs.Orderings.{Decides};
 ghost use Rattle.std.specs.Results.{isOk};
 ghost use Rattle.quorum.specs.CountingSets.{at-most, all-but, Counting-in-words, Counting-limits, counting-bar};
 ghost use Rattle.quorum.specs.Reasons.{MadeUnless};
+use crate::MOST_STATIONS;
 use crate::QuorumSystem;
 use crate::unfit::Unfit;
 use station_set::is_among;
@@ -28,7 +29,7 @@ impl Counting {
         if n == 0 {
             return Err(Unfit::NoStations);
         }
-        if n > 10 {
+        if n > MOST_STATIONS as u64 {
             return Err(Unfit::TooManyStations);
         }
         // The first test keeps the product from wrapping.

@@ -6,13 +6,13 @@ use decline::Decline;
 #[derive(Clone, Copy, PartialEq, Eq, Debug)]
 pub enum Unfit {
     NoStations,
-    // More than ten.
+    // There are more than ten.
     TooManyStations,
-    // Three times as many as there are stations, or more.
+    // Three times the faulty stations are not fewer than all stations.
     TooManyFaults,
     // The first site number above nine.
     NoSuchSite(u64),
-    // Fewer than four.
+    // Fewer than four occur.
     TooFewSites,
 }
 

@@ -8,7 +8,7 @@ use native.Mathlib.Numerals.{add-one}
 use native.Mathlib.Omega.{arith}
 use Rattle.std.specs.Orderings.{Decides}
 use Rattle.std.proofs.shelf.Tests.{cases-bool, both-ways, cond-both, cond-true, cond-false}
-use Rattle.std.proofs.shelf.Ways.{decides-below-and, decides-below-or, tells}
+use Rattle.std.proofs.shelf.Ways.{decides-below-and, decides-below-or}
 use Rattle.station_set.specs.Below.{all-below, any-below, count-below}
 
 -- a test that nothing can pass fails

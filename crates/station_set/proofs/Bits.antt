@@ -1,17 +1,13 @@
 -- The bits of a mask, for the lemmas on members; nothing above this crate speaks of bits.
-use mathlib.Core.Path.{_≡_, refl, sym, ap, _∙_}
-use mathlib.Core.Logic.{_⊎_, inl, inr, ⊎-elim}
-use mathlib.Core.Bool.{Bool, true, false, not, cond, _&&_, _||_}
+use mathlib.Core.Path.{_≡_, sym, ap, _∙_}
 use Prim.Native.Nat.{ℕ, zero, suc, min, max, _+_, _-_, _*_, _/_, _%_, _^_, _≤_, _<_}
 use native.Mathlib.Nat.{pow-suc, div-one, zero-div, div-eq-of-lt, lt-of-lt-of-le}
 use native.Mathlib.Omega.{arith}
 use native.Mathlib.Numerals.{one-add}
 use lib.Bits.{bitAnd, bitOr, bitXor, and-step, or-step, and-shr, or-shr, xor-shr, xor-add-and}
-use lib.Count.{ones, ones-step, ones-le}
-use lib.Dec.{eqb}
+use lib.Count.{ones, ones-le}
 use lib.Pow.{pow-pos, pow-mono}
-use Rattle.std.proofs.shelf.Bits.{shr-shr, shr-high, div-mul-add, mod-mul-add}
-use Rattle.std.proofs.shelf.Tests.{cases-lt, cases-eq, cases-bool, cond-true, cond-false, eq-eqb, eqb-true, ne-eqb}
+use Rattle.std.proofs.shelf.Bits.{shr-shr, shr-high}
 
 -- bit s of m
 abbrev pub bit : ℕ → ℕ → ℕ

@@ -1,6 +1,6 @@
 -- Sets of stations by member: what each operation on masks says of every station.
 use mathlib.Core.Path.{_≡_, refl, sym, ap, _∙_}
-use mathlib.Core.Logic.{_⊎_, inl, inr, ⊎-elim}
+use mathlib.Core.Logic.{_⊎_, ⊎-elim}
 use mathlib.Core.Bool.{Bool, true, false, not, cond, _&&_, _||_}
 use Prim.Native.Nat.{ℕ, zero, suc, min, max, _+_, _-_, _*_, _/_, _%_, _^_, _≤_, _<_}
 use native.Mathlib.Nat.{add-comm, pow-suc}
@@ -15,7 +15,7 @@ use Rattle.std.proofs.shelf.Bits.{div-below, mod-below, shr-split}
 use Rattle.std.proofs.shelf.Tests.{cases-lt, cases-eq, cases-bool, cond-true, cond-false, eq-eqb, ne-eqb, lt-ltb, ltb-true, le-ltb, both-ways, and-left, and-parts}
 use Rattle.std.proofs.shelf.Ways.{tells}
 use Rattle.station_set.specs.Below.{count-below}
-use Rattle.station_set.specs.Sets.{has, Inside, Among, among, members, union, common, single, first, missing, with-station, without-station, set-of}
+use Rattle.station_set.specs.Sets.{has, Among, among, members, union, common, single, first, missing, with-station, without-station, set-of}
 use Rattle.station_set.proofs.Below.{count-same}
 use Rattle.station_set.proofs.Bits.{bit, bit-lt, bit-suc, bit-zero, bit-of-none, bit-past, bit-and, bit-or, bit-xor, bit-low, bit-top, same-bits, below-own-power, below-power, ones-zero}
 

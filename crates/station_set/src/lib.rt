@@ -1,8 +1,7 @@
 //! Sets of stations as 16-bit masks: bit s stands for station s, so a set has stations 0 to 15.
 ghost use mathlib.Core.Path.{_≡_};
 ghost use Prim.Native.Nat.{_^_, _<_};
-ghost use lib.Count.{ones};
-ghost use Rattle.station_set.specs.Sets.{has, among, members, union as either, common as both, single as one, first as stations, missing as lacking, with-station, without-station};
+ghost use Rattle.station_set.specs.Sets.{has, among, members, union, common, single, first, missing, with-station, without-station};
 ghost use Rattle.station_set.specs.ByMember.{ByMember};
 
 // How many stations a mask has room for.
@@ -31,21 +30,21 @@ pub fn contains(set: u16, s: usize) -> bool
 
 // The set of one station; of none where a mask has no bit for it.
 pub fn single(s: usize) -> u16
-    ensures { λ r. ⌜ r ≡ one s ⌝ }
+    ensures { λ r. ⌜ r ≡ single s ⌝ }
 {
     if s < ROOM { power(s) } else { 0 }
 }
 
 // The stations of either set.
 pub fn union(a: u16, b: u16) -> u16
-    ensures { λ r. ⌜ r ≡ either a b ⌝ }
+    ensures { λ r. ⌜ r ≡ union a b ⌝ }
 {
     a | b
 }
 
 // The stations of both sets.
 pub fn common(a: u16, b: u16) -> u16
-    ensures { λ r. ⌜ r ≡ both a b ⌝ }
+    ensures { λ r. ⌜ r ≡ common a b ⌝ }
 {
     a & b
 }
@@ -66,14 +65,14 @@ pub fn remove(set: u16, s: usize) -> u16
 
 // The stations 0 to n - 1, as far as a mask has room.
 pub fn first(n: usize) -> u16
-    ensures { λ r. ⌜ r ≡ stations n ⌝ }
+    ensures { λ r. ⌜ r ≡ first n ⌝ }
 {
     if n < ROOM { power(n) - 1 } else { u16::MAX }
 }
 
 // Those of the stations 0 to n - 1 that the set lacks.
 pub fn missing(n: usize, set: u16) -> u16
-    ensures { λ r. ⌜ r ≡ lacking n set ⌝ }
+    ensures { λ r. ⌜ r ≡ missing n set ⌝ }
 {
     first(n) ^ common(first(n), set)
 }

@@ -1,12 +1,12 @@
 -- Steps of the loops that write text.
 use mathlib.Core.Path.{_≡_, refl, sym, ap, _∙_}
-use mathlib.Core.Bool.{Bool, true, false, cond}
-use mathlib.Core.List.{List, [], _∷_, _++_}
+use mathlib.Core.Bool.{true, false, cond}
+use mathlib.Core.List.{List, [], _++_}
 use Prim.Native.Nat.{ℕ, _+_, _<_}
 use native.Mathlib.Numerals.{add-one}
 use lib.ListN.{length, getD, take}
 use Rattle.std.specs.shelf.Lists.{joined}
-use Rattle.std.proofs.shelf.Lists.{append-nil, append-assoc, joined-more, take-more}
+use Rattle.std.proofs.shelf.Lists.{append-nil, joined-more, take-more}
 use Rattle.station_set.specs.Sets.{has}
 use Rattle.survey_text.specs.Printed.{spaced, members-text}
 

@@ -1,6 +1,6 @@
 -- What the survey program prints.
-use mathlib.Core.Bool.{Bool, cond}
-use mathlib.Core.List.{List, [], _∷_, _++_}
+use mathlib.Core.Bool.{cond}
+use mathlib.Core.List.{List, [], _++_}
 use Prim.Native.Nat.{ℕ, zero, suc}
 use lib.Chars.{codes}
 use Rattle.std.specs.Of.Vec.{vec-items}

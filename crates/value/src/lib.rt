@@ -7,7 +7,7 @@ ghost use lib.ListN.{getD};
 ghost use Rattle.std.specs.Orderings.{Decides};
 ghost use Rattle.std.specs.declared.option.Option.the-variants.{Some, None};
 ghost use Rattle.station_set.specs.Sets.{has, with-station};
-ghost use Rattle.value.specs.Tallies.{same-number, same-tally};
+ghost use Rattle.value.specs.Kinds.{same-number, same-tally};
 ghost use Rattle.value.specs.Holders.{keeps, holders-of};
 use station_set::ROOM;
 use station_set::insert;

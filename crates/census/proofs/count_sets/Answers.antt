@@ -1,7 +1,6 @@
-use mathlib.Core.Path.{_≡_, refl, sym, ap, _∙_}
+use mathlib.Core.Path.{sym, ap, _∙_}
 use native.Mathlib.Omega.{arith}
 use Prim.Native.Nat.{_+_}
-use Rattle.station_set.specs.Below.{count-below}
 use Rattle.station_set.proofs.Below.{count-none, count-more-yes, count-more-no}
 use Rattle.census.specs.Outermost.{family-of}
 use Rattle.census.proofs.count_sets.Needs as need

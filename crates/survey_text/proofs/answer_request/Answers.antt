@@ -1,9 +1,8 @@
-use mathlib.Core.Path.{_≡_, sym, ap, subst, _∙_}
+use mathlib.Core.Path.{sym, subst}
 use mathlib.Core.List.{List}
 use Prim.Native.Nat.{ℕ}
 use denote.Ref.{now}
 use Rattle.std.specs.Of.String.{string-bytes}
-use Rattle.std.specs.Of.Vec.{vec-items}
 use Rattle.std.proofs.shelf.Results.{made-weaker}
 use Rattle.survey_text.specs.declared.request.Request.{Request}
 use Rattle.survey_text.specs.Answered.{SitesAnswer, Answers}

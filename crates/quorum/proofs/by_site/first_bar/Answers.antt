@@ -12,8 +12,8 @@ returns-then-is-empty c =
     let none : length xs ≡ 0 = eqb-true (length xs) 0 (sym (c .if-is-empty .ensures tt)) in
     record { bar = sym (bar-of-none xs none); limits = ((λ w. omega (arith, w .some-station)), refl) }
 
-pub returns-then-sites-gt10 : need.returns-then-sites-gt10
-returns-then-sites-gt10 c =
+pub returns-then-sites-gt-MOST-STATIONS : need.returns-then-sites-gt-MOST-STATIONS
+returns-then-sites-gt-MOST-STATIONS c =
     let xs = c .args .sites .now in
     record { bar = sym (bar-of-many xs (omega arith)); limits = ((λ w. omega (arith, w .few-stations)), refl) }
 
@@ -33,8 +33,8 @@ loop-site-again c =
     let s = c .loop-site .site-index in
     (below-more _ _ (c .loop-site .inv .0) (omega arith), known-more xs s (omega arith) (omega arith) (c .loop-site .inv .1))
 
-pub returns-then-count-sites-lt4 : need.returns-then-count-sites-lt4
-returns-then-count-sites-lt4 c =
+pub returns-then-count-sites-lt-FEWEST-SITES : need.returns-then-count-sites-lt-FEWEST-SITES
+returns-then-count-sites-lt-FEWEST-SITES c =
     let xs = c .args .sites .now in
     let some : length xs ≡ 0 → ⊥ = eqb-false (length xs) 0 (sym (c .if-is-empty .ensures tt)) in
     record {
