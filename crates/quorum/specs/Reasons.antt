@@ -1,5 +1,6 @@
 -- Why the figures of a quorum system are declined, and what a constructor answers.
 use mathlib.Core.Path.{_≡_}
+use Prim.Native.Nat.{ℕ}
 use Rattle.std.specs.declared.option.Option.{Option}
 use Rattle.std.specs.declared.option.Option.the-variants.{Some, None}
 use Rattle.std.specs.declared.result.Result.{Result}
@@ -18,7 +19,12 @@ decline-of TooManyFaults = UnfitSystem
 decline-of (NoSuchSite site) = UnfitSystem
 decline-of TooFewSites = UnfitSystem
 
--- A system as P says where nothing bars it, and otherwise the first reason that does; its decline has the number 14.
+-- a system as P says where nothing bars it, and otherwise the first reason that does
 abbrev pub MadeUnless : {S : Type 0} → Option Unfit → (S → Type 0) → Result S Unfit → Type 0
 MadeUnless bar P (Ok system) = (bar ≡ None) × P system
-MadeUnless bar P (Err reason) = (bar ≡ Some reason) × (number-of (decline-of reason) ≡ 14)
+MadeUnless bar P (Err reason) = bar ≡ Some reason
+
+-- a reason that is answered has this decline number
+abbrev pub DeclinedWith : {S : Type 0} → ℕ → Result S Unfit → Type 0
+DeclinedWith number (Ok system) = Unit {0}
+DeclinedWith number (Err reason) = number-of (decline-of reason) ≡ number

@@ -9,7 +9,7 @@ ghost use Rattle.std.specs.Results.{isOk};
 ghost use Rattle.decline.specs.Numbers.{number-of};
 ghost use Rattle.station_set.specs.Sets.{has};
 ghost use Rattle.quorum.specs.SiteSets.{site-of, share-site, one-site, lacks-one-site, Sites-in-words, occurs, sites-occurring, SiteLimits, sites-bar};
-ghost use Rattle.quorum.specs.Reasons.{decline-of, MadeUnless};
+ghost use Rattle.quorum.specs.Reasons.{decline-of, MadeUnless, DeclinedWith};
 use crate::MOST_STATIONS;
 use crate::QuorumSystem;
 use crate::unfit::Unfit;
@@ -120,6 +120,7 @@ impl BySite {
     // The system whose station s stands at the site `sites[s]`; at least four sites occur.
     pub fn new(sites: &[u64]) -> Result<BySite, Unfit>
         ensures answer { λ r. ⌜ MadeUnless (sites-bar (now (sites .entry))) (λ q. (q .n ≡ length (now (sites .entry))) × (take (q .n) (q .sites) ≡ now (sites .entry))) r ⌝ }
+        ensures declined { λ r. ⌜ DeclinedWith 14 r ⌝ }
         ensures limits { λ r. ⌜ Decides (isOk r) (SiteLimits (now (sites .entry))) ⌝ }
     {
         match first_bar(sites) {

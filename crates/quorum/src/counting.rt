@@ -4,7 +4,7 @@ ghost use Prim.Native.Nat.{_*_, _<_, _≤_};
 ghost use Rattle.std.specs.Orderings.{Decides};
 ghost use Rattle.std.specs.Results.{isOk};
 ghost use Rattle.quorum.specs.CountingSets.{at-most, all-but, Counting-in-words, Counting-limits, counting-bar};
-ghost use Rattle.quorum.specs.Reasons.{MadeUnless};
+ghost use Rattle.quorum.specs.Reasons.{MadeUnless, DeclinedWith};
 use crate::MOST_STATIONS;
 use crate::QuorumSystem;
 use crate::unfit::Unfit;
@@ -24,6 +24,7 @@ impl Counting {
     // The system of n stations of which t may be faulty, where 3t < n.
     pub fn new(n: u64, t: u64) -> Result<Counting, Unfit>
         ensures answer { λ r. ⌜ MadeUnless (counting-bar n t) (λ q. (q .n ≡ n) × (q .t ≡ t)) r ⌝ }
+        ensures declined { λ r. ⌜ DeclinedWith 14 r ⌝ }
         ensures limits { λ r. ⌜ Decides (isOk r) (Counting-limits n t) ⌝ }
     {
         if n == 0 {

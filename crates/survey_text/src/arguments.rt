@@ -3,7 +3,6 @@ ghost use mathlib.Core.Path.{_≡_};
 ghost use Rattle.std.specs.Of.Vec.{vec-items};
 ghost use Rattle.std.specs.Results.{Cases};
 ghost use Rattle.survey_text.specs.Asked.{words-of, SpellAll, Asks, AsksNothing, SpellsNone, counting-request};
-use crate::request::AllocArgumentError;
 use crate::request::ArgumentError;
 use crate::request::RefusedArgumentError;
 use crate::request::Request;

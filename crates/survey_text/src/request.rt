@@ -1,7 +1,6 @@
 //! What the program's arguments ask for.
 ghost use mathlib.Core.Path.{_≡_};
 ghost use Rattle.survey_text.specs.declared.request.ArgumentError.the-variants.{NoMemory};
-use std::alloc::AllocError;
 use std::alloc::Refused;
 
 #[derive(Drop)]
@@ -18,14 +17,6 @@ pub enum ArgumentError {
     // One is missing, one is too many, or one is no number.
     Unreadable,
     NoMemory,
-}
-
-pub impl From<AllocError> for ArgumentError as AllocArgumentError {
-    ghost converts = { λ _ r. r ≡ NoMemory };
-
-    fn from(_error: AllocError) -> ArgumentError {
-        ArgumentError::NoMemory
-    }
 }
 
 pub impl<T: Drop> From<Refused<T>> for ArgumentError as RefusedArgumentError {
