@@ -32,7 +32,7 @@ Overlap-not-allowed allowed quorum = (a b : ℕ) → quorum a ≡ true → quoru
 abbrev pub Outside-quorum : ℕ → Family → Family → Type 0
 Outside-quorum n allowed quorum = (a : ℕ) → allowed a ≡ true → quorum (missing n a) ≡ true
 
--- the laws together, as premises of what holds for every system
+-- the laws together, as premises of what holds for every system; a mask has sixteen bits
 pub record Laws (n : ℕ) (allowed quorum : Family) : Type 0 where
   pub sized : n ≤ 16
   pub bounded : Of-stations n allowed
