@@ -17,6 +17,15 @@ pub record Listed (P : ℕ → Type 0) (k : ℕ) (sets : List ℕ) : Type 0 wher
   pub complete : (set : ℕ) → set < k → P set → (i : ℕ) × (i < length sets) × (getD sets i 0 ≡ set)
 
 module _ (P : ℕ → Type 0) where
+  pub listed-none : (sets : List ℕ) → length sets ≡ 0 → Listed P 0 sets
+  listed-none sets none =
+      record {
+        rising = λ i j _ h. absurd (omega arith);
+        small = λ i h. absurd (omega arith);
+        sound = λ i h. absurd (omega arith);
+        complete = λ set h _. absurd (omega arith);
+      }
+
   pub listed-no : (k : ℕ) (sets : List ℕ) → (P k → ⊥) → Listed P k sets → Listed P (k + 1) sets
   listed-no k sets fails l =
       record {

@@ -2,7 +2,8 @@
 ghost use mathlib.Core.Path.{_≡_};
 ghost use mathlib.Core.Bool.{true};
 ghost use Prim.Native.Nat.{_^_, _≤_};
-ghost use Rattle.std.specs.Of.Vec.{vec-items};
+ghost use mathlib.Core.List.{[]};
+ghost use Rattle.std.specs.Of.Vec.{vec-items, vec-cap};
 ghost use Rattle.std.specs.Orderings.{Decides};
 ghost use Rattle.std.specs.Vec.{made};
 ghost use Rattle.station_set.specs.Below.{count-below};
@@ -101,6 +102,19 @@ fn count_masks<S: QuorumSystem>(system: &S) -> u32
     1 << system.size()
 }
 
+// Lists the largest allowed sets, or the smallest quorums, by rising masks. It cannot fail, since there is room for every set of stations.
+fn list_outermost<S: QuorumSystem>(system: &S, family: Family, sets: &mut Vec<u16>)
+    requires { ⌜ vec-items (now sets) ≡ [] ⌝ ∗ ⌜ 2 ^ S·QuorumSystem .stations (now system) ≤ vec-cap (now sets) ⌝ }
+    ensures { λ _. ⌜ Exactly (Outermost family (S·QuorumSystem .allowed (now (system .entry))) (S·QuorumSystem .quorum (now (system .entry)))) (vec-items (now (sets .exit))) ⌝ }
+{
+    for mask in 0..count_masks(system) {
+        let set = mask as u16;
+        if is_outermost(system, family, set) {
+            sets.push_reserved(set);
+        }
+    }
+}
+
 // The largest allowed sets, or the smallest quorums, by rising masks.
 pub fn outermost<S: QuorumSystem>(
     heap: Global,
@@ -109,13 +123,8 @@ pub fn outermost<S: QuorumSystem>(
 ) -> Result<Vec<u16>, AllocError>
     ensures { λ r. ⌜ made r (λ sets. Exactly (Outermost family (S·QuorumSystem .allowed (now (system .entry))) (S·QuorumSystem .quorum (now (system .entry)))) (vec-items sets)) ⌝ }
 {
-    let mut sets = Vec::new(heap);
-    for mask in 0..count_masks(system) {
-        let set = mask as u16;
-        if is_outermost(system, family, set) {
-            sets.push(set)?;
-        }
-    }
+    let mut sets = Vec::with_capacity(heap, count_masks(system) as usize)?;
+    list_outermost(system, family, &mut sets);
     Ok(sets)
 }
 

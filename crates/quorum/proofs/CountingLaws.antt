@@ -1,36 +1,32 @@
 -- The laws of a quorum system, of the sets with few and with many members.
+use mathlib.Core.Path.{sym, subst}
 use mathlib.Core.Bool.{not, _&&_, _||_}
 use Prim.Native.Nat.{ℕ, _-_, _*_, _≤_, _<_}
 use native.Mathlib.Omega.{arith}
 use lib.Dec.{leb}
 use Rattle.std.specs.Orderings.{Decides}
-use Rattle.std.proofs.shelf.Tests.{both-ways, and-parts, and-from, leb-true, le-leb}
+use Rattle.std.proofs.shelf.Tests.{both-ways, leb-true, le-leb}
+use Rattle.station_set.specs.Below.{count-below}
 use Rattle.station_set.specs.Sets.{has, among, common, missing, members}
-use Rattle.station_set.proofs.Below.{count-le, count-no, count-mono, count-same, count-both-either, count-opposite}
-use Rattle.station_set.proofs.Members.{among-decides, has-none, has-common, has-missing-below, missing-among, members-below}
-use Rattle.station_set.proofs.Below.{false-if-not}
+use Rattle.station_set.proofs.Below.{false-if-not, count-le, count-no, count-mono, count-same, count-both-either, count-opposite}
+use Rattle.station_set.proofs.Members.{among-and, has-none, has-common, has-missing-below, missing-among, members-below}
 use Rattle.quorum.specs.Laws.{Of-stations, Empty-allowed, Subset-allowed, Superset-quorum, Overlap-not-allowed, Outside-quorum}
 use Rattle.quorum.specs.CountingSets.{at-most, all-but, AtMost, AllBut}
+
+decides-leb : (a b : ℕ) → Decides (leb a b) (a ≤ b)
+decides-leb a b = (leb-true a b, le-leb a b)
 
 module _ (n t : ℕ) where
   -- the two families in words
   pub at-most-words : (set : ℕ) → Decides (at-most n t set) (AtMost n t set)
-  at-most-words set = (
-    (λ e.
-        let w = and-parts (among n set) (leb (members set) t) e in
-        let mine = among-decides n set .0 (w .0) in
-        (mine, omega (arith, leb-true (members set) t (w .1), members-below n set mine))),
-    (λ w. and-from (among n set) (leb (members set) t) (among-decides n set .1 (w .0)) (le-leb (members set) t (omega (arith, w .1, members-below n set (w .0))))),
-  )
+  at-most-words set =
+      among-and n set (leb (members set) t)
+      (λ mine. subst (λ (k : ℕ). Decides (leb k t) (count-below n (has set) ≤ t)) (sym (members-below n set mine)) (decides-leb _ t))
 
   pub all-but-words : (set : ℕ) → Decides (all-but n t set) (AllBut n t set)
-  all-but-words set = (
-    (λ e.
-        let w = and-parts (among n set) (leb (n - t) (members set)) e in
-        let mine = among-decides n set .0 (w .0) in
-        (mine, omega (arith, leb-true (n - t) (members set) (w .1), members-below n set mine))),
-    (λ w. and-from (among n set) (leb (n - t) (members set)) (among-decides n set .1 (w .0)) (le-leb (n - t) (members set) (omega (arith, w .1, members-below n set (w .0))))),
-  )
+  all-but-words set =
+      among-and n set (leb (n - t) (members set))
+      (λ mine. subst (λ (k : ℕ). Decides (leb (n - t) k) (n - t ≤ count-below n (has set))) (sym (members-below n set mine)) (decides-leb (n - t) _))
 
   pub counting-bounded : Of-stations n (at-most n t)
   counting-bounded a e = at-most-words a .0 e .0

@@ -7,11 +7,11 @@ use Prim.Native.Nat.{ℕ, _≤_, _<_}
 use native.Mathlib.Omega.{arith}
 use lib.Dec.{eqb}
 use Rattle.std.specs.Orderings.{Decides}
-use Rattle.std.proofs.shelf.Tests.{cases-lt, both-ways, eqb-true, eq-eqb, and-parts, and-from, not-true, not-from-false}
+use Rattle.std.proofs.shelf.Tests.{cases-lt, both-ways, eqb-true, eq-eqb, and-from, not-true, not-from-false}
 use Rattle.std.proofs.shelf.Ways.{decides-and, decides-like}
 use Rattle.station_set.specs.Sets.{has, Inside, Among, among, common, missing}
 use Rattle.station_set.proofs.Below.{false-if-not, all-below-decides, any-below-decides, search-below, count-top}
-use Rattle.station_set.proofs.Members.{among-decides, same-members, has-none, has-common, has-missing-below, missing-among}
+use Rattle.station_set.proofs.Members.{among-and, among-decides, same-members, has-none, has-common, has-missing-below, missing-among}
 use Rattle.quorum.specs.Laws.{Of-stations, Empty-allowed, Subset-allowed, Superset-quorum, Overlap-not-allowed, Outside-quorum}
 use Rattle.quorum.specs.SiteSets.{site-of, share-site, one-site, lacks-one-site, OneSite, LacksOneSite, occurs, sites-occurring}
 
@@ -43,15 +43,10 @@ module _ (sites : List ℕ) (n : ℕ) (room : n ≤ 16) where
   -- ---- the two families in words
 
   pub one-site-decides : (set : ℕ) → Decides (one-site sites n set) (Among n set × Together set)
-  one-site-decides set = (
-    (λ e.
-        let w = and-parts (among n set) (share-site sites n set) e in
-        let mine = among-decides n set .0 (w .0) in
-        (mine, λ s u hs hu. share-decides sites n set .0 (w .1) s u (mine s hs) (mine u hu) hs hu)),
-    (λ w.
-        and-from (among n set) (share-site sites n set) (among-decides n set .1 (w .0))
-        (share-decides sites n set .1 (λ s u _ _. w .1 s u))),
-  )
+  one-site-decides set =
+      among-and n set (share-site sites n set)
+      (λ mine.
+      decides-like (share-site sites n set) (λ w s u hs hu. w s u (mine s hs) (mine u hu) hs hu) (λ w s u _ _. w s u) (share-decides sites n set))
 
   pub lacks-decides : (set : ℕ) → Decides (lacks-one-site sites n set) (Among n set × (one-site sites n (missing n set) ≡ true))
   lacks-decides set = decides-and (among n set) (one-site sites n (missing n set)) (among-decides n set) ((λ e. e), (λ e. e))

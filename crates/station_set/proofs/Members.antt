@@ -12,7 +12,7 @@ use lib.Dec.{eqb, ltb}
 use lib.Pow.{pow-pos, pow-mono}
 use Rattle.std.specs.Orderings.{Decides}
 use Rattle.std.proofs.shelf.Bits.{div-below, mod-below, shr-split}
-use Rattle.std.proofs.shelf.Tests.{cases-lt, cases-eq, cases-bool, cond-true, cond-false, eq-eqb, ne-eqb, lt-ltb, ltb-true, le-ltb, both-ways, and-left, and-parts}
+use Rattle.std.proofs.shelf.Tests.{cases-lt, cases-eq, cases-bool, cond-true, cond-false, eq-eqb, ne-eqb, lt-ltb, ltb-true, le-ltb, both-ways, and-left, and-parts, and-from}
 use Rattle.std.proofs.shelf.Ways.{tells}
 use Rattle.station_set.specs.Below.{count-below}
 use Rattle.station_set.specs.Sets.{has, Among, among, members, union, common, single, first, missing, with-station, without-station, set-of}
@@ -77,6 +77,13 @@ below-among n set among =
 
 pub among-decides : (n set : ℕ) → Decides (among n set) (Among n set)
 among-decides n set = ((λ e. among-below n set (ltb-true set (2 ^ n) e)), (λ h. lt-ltb set (2 ^ n) (below-among n set h)))
+
+-- a test that asks first whether the set is one of the n stations
+pub among-and : {P : Type 0} (n set : ℕ) (test : Bool) → (Among n set → Decides test P) → Decides (among n set && test) (Among n set × P)
+among-and n set test then = (
+  (λ e. let w = and-parts (among n set) test e in let mine = among-decides n set .0 (w .0) in (mine, then mine .0 (w .1))),
+  (λ w. and-from (among n set) test (among-decides n set .1 (w .0)) (then (w .0) .1 (w .1))),
+)
 
 -- a station past the set's stations is no member
 pub has-past : (n set s : ℕ) → set < 2 ^ n → n ≤ s → has set s ≡ false
