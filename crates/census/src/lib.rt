@@ -1,4 +1,6 @@
 //! Surveys of a quorum system: its largest allowed sets, its smallest quorums, and how many of each kind there are.
+#![tactic(auto)]
+
 ghost use Rattle.std.specs.Prelude.{◌≡◌, ◌^◌, ◌≤◌, true, [], IfOk, vec_capacity, Decides};
 ghost use Rattle.station_set.specs.Below.{count_below};
 ghost use Rattle.census.specs.declared.Family.TheVariants.{Allowed, Quorums};

@@ -1,4 +1,6 @@
 //! Why a call is declined. Each reason has one number, which programs print.
+#![tactic(auto)]
+
 ghost use Rattle.std.specs.Prelude.{◌≡◌};
 ghost use Rattle.decline.specs.Numbers.{number_of};
 

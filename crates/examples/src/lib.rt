@@ -1,4 +1,6 @@
 //! Worked examples: a table of them proved by one proof, and tests that run them.
+#![tactic(auto)]
+
 ghost use Rattle.examples.specs.Schedules.{SchedulesHold};
 ghost use Rattle.examples.specs.Table.{ExamplesHold};
 

@@ -1,4 +1,5 @@
 //! What a bench is: its messages, its stations' tables, and the machine that a call moves by one step.
+#![tactic(auto)]
 
 pub mod call;
 pub mod message;

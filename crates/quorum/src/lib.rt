@@ -1,4 +1,6 @@
 //! Quorum systems: which sets of stations may be faulty, and which are enough to go on.
+#![tactic(auto)]
+
 ghost use Rattle.std.specs.Prelude.{◌≡◌, ℕ, ◌≤◌, Bool};
 ghost use Rattle.quorum.specs.Laws.{OfStations, EmptyAllowed, SubsetAllowed, SupersetQuorum, OverlapNotAllowed, OutsideQuorum};
 

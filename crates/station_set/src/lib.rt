@@ -1,4 +1,6 @@
 //! Sets of stations as 16-bit masks: bit s stands for station s, so a set has stations 0 to 15.
+#![tactic(auto)]
+
 ghost use Rattle.std.specs.Prelude.{◌≡◌, ◌^◌, ◌<◌};
 ghost use Rattle.station_set.specs.Sets.{has, among, members, union, common, single, first, missing, with_station, without_station};
 ghost use Rattle.station_set.specs.ByMember.{ByMember};

@@ -1,4 +1,6 @@
 //! Prints which sets of stations a quorum system allows to be faulty, and which are quorums.
+#![tactic(auto)]
+
 use std::{env, io};
 use survey_text::answer;
 

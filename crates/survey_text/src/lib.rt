@@ -1,4 +1,6 @@
 //! The survey program's words: what its arguments ask for, and what it prints.
+#![tactic(auto)]
+
 ghost use Rattle.std.specs.Prelude.{◌≡◌, IfOk, string_bytes};
 ghost use Rattle.std.specs.List.{flat_map};
 ghost use Rattle.survey_text.specs.declared.request.ArgumentError.TheVariants.{Unreadable};

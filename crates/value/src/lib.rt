@@ -1,4 +1,6 @@
 //! Kinds of value that a register can hold.
+#![tactic(auto)]
+
 ghost use Rattle.std.specs.Prelude.{◌≡◌, ℕ, ◌<◌, ◌≤◌, Bool, if◌then◌else◌, Some, None, Decides, slice_index_or};
 ghost use Rattle.station_set.specs.Sets.{has, with_station};
 ghost use Rattle.value.specs.Kinds.{same_number, same_tally};

@@ -3,7 +3,7 @@ use Rattle.station_set.specs.Below.{count_below}
 use Rattle.station_set.proofs.Below.{count_none, count_more_yes, count_more_no}
 use Rattle.quorum.specs.SiteSets.{occurs, sites_occurring}
 use Rattle.quorum.proofs.by_site.count_sites.Goals as goal
-use Rattle.quorum.proofs.by_site.count_sites.Goals.{then-site-occurs, else-site-occurs}
+use Rattle.quorum.proofs.by_site.count_sites.Goals.{then-site_occurs, else-site_occurs}
 
 pub loop-site-init : goal.loop-site-init
 loop-site-init c = (sym (count_none (occurs c.args.sites.now (length c.args.sites.now))), omega arith)
@@ -12,11 +12,11 @@ pub loop-site-preserved : goal.loop-site-preserved
 loop-site-preserved c =
     let here = occurs c.args.sites.now (length c.args.sites.now) in
     let k = c.loop-site.site in
-    elim c.if-site-occurs.branch [
-      | then-site-occurs w ↦
+    elim c.if-site_occurs.branch [
+      | then-site_occurs w ↦
           let more = count_more_yes k here (sym c.site-occurs.ensures ∙ w.if-site-occurs.true) in
           (omega (arith, w.count-is), omega (arith, w.count-is))
-      | else-site-occurs w ↦
+      | else-site_occurs w ↦
           let more = count_more_no k here (sym c.site-occurs.ensures ∙ w.if-site-occurs.false) in
           (omega (arith, w.count-is), omega (arith, w.count-is))
     ]

@@ -18,7 +18,7 @@ pub returns-then-site-ge-SITES : goal.returns-then-site-ge-SITES
 returns-then-site-ge-SITES c =
     let xs = c.args.sites.now in
     let s = c.loop-site.site-index in
-    let some : length xs ≡ 0 → ⊥ = eqb-false (length xs) 0 (sym c.if-is-empty.ensures) in
+    let some : length xs ≡ 0 → ⊥ = eqb-false (length xs) 0 (sym c.if-is_empty.ensures) in
     record {
       bar = sym (bar_of_unknown xs s some (omega arith) (omega arith) (omega arith) c.loop-site.invariant.1);
       limits = ((λ w. omega (arith, w.sites_known s (omega arith))), refl);
@@ -42,7 +42,7 @@ returns-then-count-sites-lt-FEWEST-SITES c =
 pub returns : goal.returns
 returns c =
     let xs = c.args.sites.now in
-    let some : length xs ≡ 0 → ⊥ = eqb-false (length xs) 0 (sym c.if-is-empty.ensures) in
+    let some : length xs ≡ 0 → ⊥ = eqb-false (length xs) 0 (sym c.if-is_empty.ensures) in
     record {
       bar = sym (no_bar xs c.loop-site.site-index some (omega arith) (omega arith) c.loop-site.invariant.1 (omega arith));
       limits = record {

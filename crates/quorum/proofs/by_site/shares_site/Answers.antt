@@ -11,7 +11,7 @@ returns-then-contains c =
     let here = c.loop-s.s in
     let member = sym c.contains.ensures ∙ c.if-contains.true in
     same_from_decides _ _
-    (Decides-like c.all-at.result (λ at s u ls lu hs hu. at s ls hs ∙ sym (at u lu hu)) (λ share u lu hu. share u here lu (omega arith) hu member) c.all-at.ensures)
+    (Decides-like c.all_at.result (λ at s u ls lu hs hu. at s ls hs ∙ sym (at u lu hu)) (λ share u lu hu. share u here lu (omega arith) hu member) c.all_at.ensures)
     (share_decides c.args.sites.now n c.args.set)
 
 pub returns : goal.returns
