@@ -5,7 +5,7 @@ use Rattle.census.specs.Outermost.{Outermost}
 use Rattle.census.proofs.Steps.{family_among}
 use Rattle.census.proofs.Listed.{Listed, listed_none, listed_yes, listed_no, listed_all}
 use Rattle.census.proofs.list_outermost.Goals as goal
-use Rattle.census.proofs.list_outermost.Goals.{then-is-outermost, else-is-outermost}
+use Rattle.census.proofs.list_outermost.Goals.{then-is_outermost, else-is_outermost}
 
 pub loop-mask-init : goal.loop-mask-init
 loop-mask-init g c =
@@ -19,16 +19,16 @@ loop-mask-preserved g c =
     let P : ℕ → Type 0 = Outermost c.args.family (g.S.QuorumSystem.allowed q) (g.S.QuorumSystem.quorum q) in
     let k = c.loop-mask.mask in
     let inv = c.loop-mask.invariant in
-    elim c.if-is-outermost.branch [
-      | then-is-outermost w ↦
-          let more = w.push-reserved.ensures in
-          let listed = listed_yes P k _ (c.is-outermost.ensures.0 w.if-is-outermost.true) inv.0 in (
+    elim c.if-is_outermost.branch [
+      | then-is_outermost w ↦
+          let more = w.push_reserved.ensures in
+          let listed = listed_yes P k _ (c.is_outermost.ensures.0 w.if-is_outermost.true) inv.0 in (
             subst (Listed P (k + 1)) (sym (ap vec_items w.sets-is ∙ more.items)) listed,
             omega (arith, inv.1, ap vec_len w.sets-is, more.len),
             ap vec_capacity w.sets-is ∙ more.capacity ∙ inv.2,
           )
-      | else-is-outermost w ↦
-          let listed = listed_no P k _ (λ p. both_ways _ w.if-is-outermost.false (c.is-outermost.ensures.1 p)) inv.0 in (
+      | else-is_outermost w ↦
+          let listed = listed_no P k _ (λ p. both_ways _ w.if-is_outermost.false (c.is_outermost.ensures.1 p)) inv.0 in (
             subst (λ v. Listed P (k + 1) (vec_items v)) (sym w.sets-is) listed,
             omega (arith, inv.1, ap vec_len w.sets-is),
             ap vec_capacity w.sets-is ∙ inv.2,

@@ -11,8 +11,8 @@ pub returns-in-Ok : goal.returns-in-Ok
 returns-in-Ok c =
     let words = words_of c.args.words.now in
     let request = c.in-Ok.request in
-    IfOk-weaker c.answer-request.result (λ text. Answers request (string_bytes text)) (λ text. Answered words (string_bytes text))
-    (λ text told. inl (request, c.in-Ok.ensures, told)) c.answer-request.ensures
+    IfOk-weaker c.answer_request.result (λ text. Answers request (string_bytes text)) (λ text. Answered words (string_bytes text))
+    (λ text told. inl (request, c.in-Ok.ensures, told)) c.answer_request.ensures
 
 pub returns-in-Err : goal.returns-in-Err
 returns-in-Err c =

@@ -11,8 +11,8 @@ line number words = codes "declined " ++ (decimal number ++ (codes ": " ++ (word
 pub returns : goal.returns
 returns c =
     let number = c.number-number.result in
-    let words = c.reason-in-words-words.result.now in
+    let words = c.reason_in_words-words.result.now in
     let filled : line number words ≡ declined_text c.args.reason =
-    ap (λ k. line k words) (c.number-number.ensures ∙ ap number_of c.from.ensures) ∙ ap (line _) c.reason-in-words-words.ensures in
+    ap (λ k. line k words) (c.number-number.ensures ∙ ap number_of c.from.ensures) ∙ ap (line _) c.reason_in_words-words.ensures in
     IfOk-weaker c.format.result (λ text. string_bytes text ≡ line number words) (λ text. string_bytes text ≡ declined_text c.args.reason)
     (λ text e. e ∙ filled) c.format.ensures.ok

@@ -6,5 +6,5 @@ use Rattle.survey_text.proofs.explain.Goals as goal
 
 pub returns-in-Unreadable : goal.returns-in-Unreadable
 returns-in-Unreadable c =
-    IfOk-weaker c.from-str.result (λ text. string_bytes text ≡ usage) (λ text. (c.args.error ≡ Unreadable) × (string_bytes text ≡ usage))
-    (λ text e. (c.in-Unreadable.is, e)) c.from-str.ensures.ok
+    IfOk-weaker c.from_str.result (λ text. string_bytes text ≡ usage) (λ text. (c.args.error ≡ Unreadable) × (string_bytes text ≡ usage))
+    (λ text e. (c.in-Unreadable.is, e)) c.from_str.ensures.ok

@@ -15,8 +15,8 @@ returns g c =
     let smallest = string_bytes c.in-ok-smallest.smallest in
     let a = survey.allowed_sets in
     let b = survey.quorums in
-    let first : largest ≡ flat_map set_line (vec_items survey.largest_allowed) = c.in-ok-largest.ensures ∙ ap (flat_map set_line) c.as-slice.ensures.value in
-    let second : smallest ≡ flat_map set_line (vec_items survey.smallest_quorums) = c.in-ok-smallest.ensures ∙ ap (flat_map set_line) c.as-slice-2.ensures.value in
+    let first : largest ≡ flat_map set_line (vec_items survey.largest_allowed) = c.in-ok-largest.ensures ∙ ap (flat_map set_line) c.as_slice.ensures.value in
+    let second : smallest ≡ flat_map set_line (vec_items survey.smallest_quorums) = c.in-ok-smallest.ensures ∙ ap (flat_map set_line) c.as_slice-2.ensures.value in
     let filled : survey_lines largest smallest a b name ≡ survey_text name survey =
     ap (λ t. survey_lines t smallest a b name) first
     ∙ ap (λ t. survey_lines (flat_map set_line (vec_items survey.largest_allowed)) t a b name) second in

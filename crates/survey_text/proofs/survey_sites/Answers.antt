@@ -11,8 +11,8 @@ returns-in-ok-name c =
     let q = c.in-Ok.system in
     let sites = c.args.sites.now in
     let made = c.in-Ok.ensures.answer in
-    let name : c.as-str.result.now ≡ sites_name sites = c.as-str.ensures.value ∙ c.in-ok-name.ensures in
-    IfOk-weaker c.report.result (λ text. Reports q.n (one_site q.sites q.n) (lacks_one_site q.sites q.n) c.as-str.result.now (string_bytes text))
+    let name : c.as_str.result.now ≡ sites_name sites = c.as_str.ensures.value ∙ c.in-ok-name.ensures in
+    IfOk-weaker c.report.result (λ text. Reports q.n (one_site q.sites q.n) (lacks_one_site q.sites q.n) c.as_str.result.now (string_bytes text))
     (λ text. SitesAnswer sites (string_bytes text))
-    (λ text. sites_reported sites q.sites q.n c.as-str.result.now (string_bytes text) made.0 made.1.0 made.1.1 name)
+    (λ text. sites_reported sites q.sites q.n c.as_str.result.now (string_bytes text) made.0 made.1.0 made.1.1 name)
     c.report.ensures

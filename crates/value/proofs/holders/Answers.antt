@@ -17,18 +17,18 @@ loop-s-init g c = set_of_none _
 
 pub loop-s-preserved : goal.loop-s-preserved
 loop-s-preserved g c =
-    let equal = g.V-as-Value.equal in
+    let equal = g.V.Value.equal in
     let row = c.args.row.now in
     let s = c.loop-s.s in
     let p : ℕ → Bool = λ u. keeps equal c.args.v (get_or row u None) in
     let here : s < length row = omega arith in
     let read : c.index-row-s.result ≡ get_or row s None = get_or_read _ _ _ here c.index-row-s.is None in
-    c.with-holder-set.ensures ∙ ap (λ kept. cond (keeps equal c.args.v kept) (with_station c.loop-s.set s) c.loop-s.set) read
+    c.with_holder-set.ensures ∙ ap (λ kept. cond (keeps equal c.args.v kept) (with_station c.loop-s.set s) c.loop-s.set) read
     ∙ ap (λ m. cond (p s) (with_station m s) m) c.loop-s.invariant ∙ set_of_more s p
 
 pub returns : goal.returns
 returns g c =
-    let equal = g.V-as-Value.equal in
+    let equal = g.V.Value.equal in
     let row = c.args.row.now in
     let v = c.args.v in
     let p : ℕ → Bool = λ u. keeps equal v (get_or row u None) in

@@ -4,4 +4,4 @@ use Rattle.value.specs.Holders.{keeps}
 use Rattle.value.proofs.holders.Given as goal
 
 abbrev pub invariant-loop-s : goal.invariant-loop-s
-invariant-loop-s g l = l.set ≡ set_of l.s (λ s. keeps g.V-as-Value.equal l.v (get_or l.row s None))
+invariant-loop-s g l = l.set ≡ set_of l.s (λ s. keeps g.V.Value.equal l.v (get_or l.row s None))

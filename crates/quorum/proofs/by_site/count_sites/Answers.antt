@@ -14,10 +14,10 @@ loop-site-preserved c =
     let k = c.loop-site.site in
     elim c.if-site_occurs.branch [
       | then-site_occurs w ↦
-          let more = count_more_yes k here (sym c.site-occurs.ensures ∙ w.if-site-occurs.true) in
+          let more = count_more_yes k here (sym c.site_occurs.ensures ∙ w.if-site_occurs.true) in
           (omega (arith, w.count-is), omega (arith, w.count-is))
       | else-site_occurs w ↦
-          let more = count_more_no k here (sym c.site-occurs.ensures ∙ w.if-site-occurs.false) in
+          let more = count_more_no k here (sym c.site_occurs.ensures ∙ w.if-site_occurs.false) in
           (omega (arith, w.count-is), omega (arith, w.count-is))
     ]
 

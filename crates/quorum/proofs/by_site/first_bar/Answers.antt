@@ -3,14 +3,14 @@ use Rattle.std.proofs.lemmas.Bool.{eqb-true, eqb-false}
 use Rattle.quorum.proofs.SiteLists.{bar_of_none, bar_of_many, bar_of_unknown, bar_of_few, no_bar, known_more}
 use Rattle.quorum.proofs.by_site.first_bar.Goals as goal
 
-pub returns-then-is-empty : goal.returns-then-is-empty
-returns-then-is-empty c =
+pub returns-then-is_empty : goal.returns-then-is_empty
+returns-then-is_empty c =
     let xs = c.args.sites.now in
-    let none : length xs ≡ 0 = eqb-true (length xs) 0 (sym c.if-is-empty.ensures) in
+    let none : length xs ≡ 0 = eqb-true (length xs) 0 (sym c.if-is_empty.ensures) in
     record { bar = sym (bar_of_none xs none); limits = ((λ w. omega (arith, w.some_station)), refl) }
 
-pub returns-then-sites-gt-MOST-STATIONS : goal.returns-then-sites-gt-MOST-STATIONS
-returns-then-sites-gt-MOST-STATIONS c =
+pub returns-then-sites-gt-MOST_STATIONS : goal.returns-then-sites-gt-MOST_STATIONS
+returns-then-sites-gt-MOST_STATIONS c =
     let xs = c.args.sites.now in
     record { bar = sym (bar_of_many xs (omega arith)); limits = ((λ w. omega (arith, w.few_stations)), refl) }
 
@@ -30,10 +30,10 @@ loop-site-preserved c =
     let s = c.loop-site.site-index in
     (below_more _ _ c.loop-site.invariant.0 (omega arith), known_more xs s (omega arith) (omega arith) c.loop-site.invariant.1)
 
-pub returns-then-count-sites-lt-FEWEST-SITES : goal.returns-then-count-sites-lt-FEWEST-SITES
-returns-then-count-sites-lt-FEWEST-SITES c =
+pub returns-then-count_sites-lt-FEWEST_SITES : goal.returns-then-count_sites-lt-FEWEST_SITES
+returns-then-count_sites-lt-FEWEST_SITES c =
     let xs = c.args.sites.now in
-    let some : length xs ≡ 0 → ⊥ = eqb-false (length xs) 0 (sym c.if-is-empty.ensures) in
+    let some : length xs ≡ 0 → ⊥ = eqb-false (length xs) 0 (sym c.if-is_empty.ensures) in
     record {
       bar = sym (bar_of_few xs c.loop-site.site-index some (omega arith) (omega arith) c.loop-site.invariant.1 (omega arith));
       limits = ((λ w. omega (arith, w.four_sites)), refl);

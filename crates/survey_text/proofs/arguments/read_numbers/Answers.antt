@@ -11,8 +11,8 @@ returns-in-Err c ns all =
     let x = c.word-item.result in
     let here : i < length words = omega arith in
     let found = spell_all_at (words_of words) ns i all (omega (arith, length-map words string_bytes)) in
-    let same : get_or (words_of words) i [] ≡ c.as-str.result.now = word_at words i x here c.word-item.is ∙ sym c.as-str.ensures.value in
-    let spelled : Spells c.as-str.result.now found.0 = subst (λ (w : List ℕ). Spells w found.0) same found.1 in
+    let same : get_or (words_of words) i [] ≡ c.as_str.result.now = word_at words i x here c.word-item.is ∙ sym c.as_str.ensures.value in
+    let spelled : Spells c.as_str.result.now found.0 = subst (λ (w : List ℕ). Spells w found.0) same found.1 in
     c.in-Err.ensures.value.0 (spelled.0, spelled.1)
 
 pub loop-word-preserved : goal.loop-word-preserved
@@ -23,7 +23,7 @@ loop-word-preserved c =
     let here : i < length words = omega arith in
     let read = c.in-Ok.ensures.value.0 in
     let spelled : Spells (string_bytes x) c.in-Ok.number =
-    subst (λ (w : List ℕ). Spells w c.in-Ok.number) c.as-str.ensures.value (read.0.0, read.0.1, read.1) in
+    subst (λ (w : List ℕ). Spells w c.in-Ok.number) c.as_str.ensures.value (read.0.0, read.0.1, read.1) in
     subst (λ (ns : List ℕ). SpellAll (words_of (take (i + 1) words)) ns) (sym c.in-ok-push.ensures.items)
     (spell_more words i x c.in-Ok.number (vec_items c.loop-word.numbers) here c.word-item.is spelled c.loop-word.invariant)
 

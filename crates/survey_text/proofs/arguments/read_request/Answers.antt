@@ -33,9 +33,9 @@ returns-then-eq c =
     let ns = vec_items c.in-ok-numbers.numbers in
     let rest = words_of (drop 1 words) in
     let all : SpellAll rest ns = subst (λ ws. SpellAll (words_of ws) ns) (take_rest words 1) c.in-ok-numbers.ensures in
-    let first : string_bytes x ≡ codes "counting" = sym c.as-str-kind.ensures.value ∙ c.if-eq.ensures.0 refl in
+    let first : string_bytes x ≡ codes "counting" = sym c.as_str-kind.ensures.value ∙ c.if-eq.ensures.0 refl in
     let split : words_of words ≡ string_bytes x ∷ rest = words_split words x (omega arith) c.index-words-0.is in
-    let said : c.counting_request.result ≡ counting_request ns = c.counting_request.ensures ∙ ap counting_request c.as-slice.ensures.value in
+    let said : c.counting_request.result ≡ counting_request ns = c.counting_request.ensures ∙ ap counting_request c.as_slice.ensures.value in
     let asked = subst (λ (ws : List (List ℕ)). MatchResult (counting_request ns) (Asks ws) (AsksNothing ws)) (sym split) (counting_asked (string_bytes x) rest ns first all) in
     subst (λ r. MatchResult r (Asks (words_of words)) (AsksNothing (words_of words))) (sym said) asked
 
@@ -45,7 +45,7 @@ returns-then-eq-2 c =
     let x = c.index-words-0.result in
     let ns = vec_items c.in-ok-numbers.numbers in
     let all : SpellAll (words_of (drop 1 words)) ns = subst (λ ws. SpellAll (words_of ws) ns) (take_rest words 1) c.in-ok-numbers.ensures in
-    let first : string_bytes x ≡ codes "sites" = sym c.as-str-kind.ensures.value ∙ c.if-eq-2.ensures.0 refl in
+    let first : string_bytes x ≡ codes "sites" = sym c.as_str-kind.ensures.value ∙ c.if-eq-2.ensures.0 refl in
     let split : words_of words ≡ string_bytes x ∷ words_of (drop 1 words) = words_split words x (omega arith) c.index-words-0.is in
     let many : 0 < length (words_of (drop 1 words)) = omega (arith, length-map (drop 1 words) string_bytes, length-drop 1 words) in
     (words_of (drop 1 words), split ∙ ap (λ w. w ∷ words_of (drop 1 words)) first, many, all)
@@ -55,7 +55,7 @@ returns c =
     let words = c.args.words.now in
     let x = c.index-words-0.result in
     let rest = words_of (drop 1 words) in
-    let kind = c.as-str-kind.ensures.value in
+    let kind = c.as_str-kind.ensures.value in
     let not-counting : string_bytes x ≡ codes "counting" → length rest ≡ 2 → ⊥ = λ e _. false≢true (c.if-eq.ensures.1 (kind ∙ e)) in
     let not_sites : string_bytes x ≡ codes "sites" → ⊥ = λ e. false≢true (c.if-eq-2.ensures.1 (kind ∙ e)) in
     let split : words_of words ≡ string_bytes x ∷ rest = words_split words x (omega arith) c.index-words-0.is in
