@@ -10,9 +10,9 @@ loop-set-preserved c =
     let sets = c.args.sets.now in
     let i = c.loop-set.set-index in
     let here : i < length sets = omega arith in
-    c.in-ok-push_str.ensures.bytes
+    c.in_ok-push_str.ensures.bytes
     ∙ ap (λ t. t ++ c.as_str.result.now) c.loop-set.invariant
-    ∙ ap (λ t. flat_map set_line (take i sets) ++ t) (c.as_str.ensures.value ∙ c.in-ok-line.ensures)
+    ∙ ap (λ t. flat_map set_line (take i sets) ++ t) (c.as_str.ensures.value ∙ c.in_ok-line.ensures)
     ∙ sym (joined_one_more set_line [] sets i 0 here)
 
 pub returns : goal.returns

@@ -10,8 +10,8 @@ loop-site-preserved c =
     let sites = c.args.sites.now in
     let i = c.loop-site.site-index in
     let here : i < length sites = omega arith in
-    let word : string_bytes c.in-ok-word.word ≡ spaced (get_or sites i 0) = c.in-ok-word.ensures.ok in
-    c.in-ok-push_str.ensures.bytes
+    let word : string_bytes c.in_ok-word.word ≡ spaced (get_or sites i 0) = c.in_ok-word.ensures.ok in
+    c.in_ok-push_str.ensures.bytes
     ∙ ap (λ t. t ++ c.as_str.result.now) c.loop-site.invariant
     ∙ ap (λ t. (codes "sites" ++ flat_map spaced (take i sites)) ++ t) (c.as_str.ensures.value ∙ word)
     ∙ sym (joined_one_more spaced (codes "sites") sites i 0 here)

@@ -6,12 +6,12 @@ use Rattle.survey_text.specs.Answered.{Reports, SitesAnswer}
 use Rattle.survey_text.proofs.Named.{sites_reported}
 use Rattle.survey_text.proofs.survey_sites.Goals as goal
 
-pub returns-in-ok-name : goal.returns-in-ok-name
-returns-in-ok-name c =
+pub returns-in_ok-name-in-Ok : goal.returns-in_ok-name-in-Ok
+returns-in_ok-name-in-Ok c =
     let q = c.in-Ok.system in
     let sites = c.args.sites.now in
     let made = c.in-Ok.ensures.answer in
-    let name : c.as_str.result.now ≡ sites_name sites = c.as_str.ensures.value ∙ c.in-ok-name.ensures in
+    let name : c.as_str.result.now ≡ sites_name sites = c.as_str.ensures.value ∙ c.in_ok-name-in-Ok.ensures in
     IfOk-weaker c.report.result (λ text. Reports q.n (one_site q.sites q.n) (lacks_one_site q.sites q.n) c.as_str.result.now (string_bytes text))
     (λ text. SitesAnswer sites (string_bytes text))
     (λ text. sites_reported sites q.sites q.n c.as_str.result.now (string_bytes text) made.0 made.1.0 made.1.1 name)

@@ -24,7 +24,7 @@ loop-word-preserved c =
     let read = c.in-Ok.ensures.value.0 in
     let spelled : Spells (string_bytes x) c.in-Ok.number =
     subst (λ (w : List ℕ). Spells w c.in-Ok.number) c.as_str.ensures.value (read.0.0, read.0.1, read.1) in
-    subst (λ (ns : List ℕ). SpellAll (words_of (take (i + 1) words)) ns) (sym c.in-ok-push.ensures.items)
+    subst (λ (ns : List ℕ). SpellAll (words_of (take (i + 1) words)) ns) (sym c.in_ok-push-in-Ok.ensures.items)
     (spell_more words i x c.in-Ok.number (vec_items c.loop-word.numbers) here c.word-item.is spelled c.loop-word.invariant)
 
 pub returns : goal.returns
