@@ -1,6 +1,6 @@
 -- At rest no station inside has an operation open: each that it waits for has answered, and all stations inside are a quorum.
 -- Of the broadcast only totality and delivery are used.
-use Rattle.std.proofs.Common.{◌≡◌, ℕ, ◌<◌, ◌≤◌, true, false, ◌⊎◌, Some, refl, subst, ⊎_elim, arith}
+use Rattle.std.proofs.Common.{◌≡◌, ℕ, ◌<◌, ◌≤◌, true, false, Some, refl, subst, ⊎_elim, arith}
 use Rattle.std.proofs.lemmas.Bool.{both_ways}
 use Rattle.machine.specs.declared.message.Message.{Message}
 use Rattle.machine.specs.declared.message.Message.TheVariants.{WriteDone, Read, State as StateOf, CatchUp, CatchUpDone}

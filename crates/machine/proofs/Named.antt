@@ -1,5 +1,5 @@
 -- Every waiting message, and every operation, names stations and registers of the bench only.
-use Rattle.std.proofs.Common.{◌≡◌, ℕ, zero, suc, ◌+◌, ◌<◌, ◌≤◌, true, ◌&&◌, eqb, ◌⊎◌, List, [], ◌∷◌, map, Some, None, Option, refl, ap, ◌∙◌, subst, ⊎_elim, arith}
+use Rattle.std.proofs.Common.{◌≡◌, ℕ, zero, suc, ◌+◌, ◌<◌, ◌≤◌, true, ◌&&◌, eqb, List, [], ◌∷◌, map, Some, None, Option, refl, ap, ◌∙◌, subst, ⊎_elim, arith}
 use Rattle.std.specs.List.{range_with_len, AllByRecursion as All}
 use Rattle.std.proofs.lemmas.Bool.{both_ways, cond_both, and_parts, eqb-true, ltb-true, not-false, and_cases}
 use Rattle.std.proofs.ByRecursion.{All-append, all_kept_by}
@@ -16,7 +16,7 @@ use Rattle.machine.specs.declared.call.Answer.{Answer}
 use Rattle.machine.specs.State.{Setting, Cell, Figures, State, number, with_cell, with_stage, remove, send, to_all}
 use Rattle.machine.specs.Operations.{Outcome, leaves, start_catching, freshness_at, test_freshness, write_done_at, keep_report, state_at, catch_up_done_at}
 use Rattle.machine.specs.Publishing.{vote_echo, vote_ready, send_echo, send_ready, take_value, count_echoes, on_echo, join_readies, count_readies, on_ready}
-use Rattle.machine.specs.Calls.{sender, receiver, act, unless_old, begin_write, begin_read, write_reasons, read_reasons, forge_reasons, forge_decline, uses_register, forged, opened, step}
+use Rattle.machine.specs.Calls.{act, unless_old, begin_write, begin_read, write_reasons, read_reasons, forge_reasons, forge_decline, uses_register, forged, opened, step}
 use Rattle.machine.proofs.Cases.{after_call}
 use Rattle.machine.proofs.Tables.{put_all, all_nth, all_removed}
 use Rattle.machine.proofs.Quorums.{joins}

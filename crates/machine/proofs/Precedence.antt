@@ -1,6 +1,6 @@
 -- Which of two operations on a register stands first: the four cases of precedence.
 -- Of the broadcast only its four properties are used.
-use Rattle.std.proofs.Common.{◌≡◌, ℕ, zero, suc, ◌<◌, ◌≤◌, true, false, ◌||◌, ◌⊎◌, length, Some, sym, refl, ap, ◌∙◌, subst, inl, inr, ⊎_elim, arith}
+use Rattle.std.proofs.Common.{◌≡◌, ℕ, zero, suc, ◌<◌, ◌≤◌, true, false, ◌||◌, length, Some, sym, refl, ap, ◌∙◌, subst, inl, inr, ⊎_elim, arith}
 use Rattle.std.proofs.lemmas.Bool.{both_ways, cases_lt, and_from, eq-eqb}
 use Rattle.station_set.specs.Sets.{has}
 use Rattle.machine.specs.declared.station.Stage.{Stage}

@@ -1,5 +1,5 @@
 -- What one call does to the operation of a station inside.
-use Rattle.std.proofs.Common.{◌≡◌, ℕ, ◌<◌, Bool, true, false, ◌&&◌, ◌||◌, ◌⊎◌, Some, None, sym, refl, ap, ◌∙◌, subst, ⊎_elim}
+use Rattle.std.proofs.Common.{◌≡◌, ℕ, ◌<◌, Bool, true, false, ◌&&◌, ◌||◌, Some, None, sym, refl, ap, ◌∙◌, subst, ⊎_elim}
 use Rattle.std.proofs.lemmas.Bool.{and_right, both_ways, cases_eq, ne_eqb, ltb-true, not-false, and_parts}
 use Rattle.decline.specs.declared.Decline.{Decline}
 use Rattle.station_set.specs.Sets.{has}

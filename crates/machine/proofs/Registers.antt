@@ -1,6 +1,6 @@
 -- The registers, safety: what messages and stages of operations tell of how far stations are.
 -- Of the broadcast nothing is used here but that numbers never fall and that a copy is what was taken.
-use Rattle.std.proofs.Common.{◌≡◌, ℕ, suc, ◌<◌, ◌≤◌, true, ◌⊎◌, List, Some, sym, refl, ap, ◌∙◌, subst, ap₂, ⊎_elim, arith}
+use Rattle.std.proofs.Common.{◌≡◌, ℕ, suc, ◌<◌, ◌≤◌, true, List, Some, sym, refl, ap, ◌∙◌, subst, ap₂, ⊎_elim, arith}
 use mathlib.Core.Path.{fun_ext}
 use Rattle.std.specs.List.{remove, AllByRecursion as All, slice_get}
 use Rattle.std.proofs.lemmas.Bool.{both_ways}

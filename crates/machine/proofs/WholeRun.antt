@@ -1,5 +1,5 @@
 -- Order and rest of a run, put together.
-use Rattle.std.proofs.Common.{◌≡◌, ℕ, zero, suc, ◌<◌, ◌≤◌, true, false, ◌&&◌, ◌||◌, ltb, ◌⊎◌, length, Some, None, Option, sym, refl, ap, ◌∙◌, subst, inl, inr, ⊎_elim, arith}
+use Rattle.std.proofs.Common.{◌≡◌, ℕ, zero, suc, ◌<◌, ◌≤◌, true, false, ◌&&◌, ◌||◌, ltb, length, Some, None, Option, sym, refl, ap, ◌∙◌, subst, inl, inr, ⊎_elim, arith}
 use Rattle.std.proofs.lemmas.Bool.{both_ways, and_parts, and_from, and_cases, and_right, not_from_false, not-false, ltb-true, lt-ltb, eq-eqb, cases_lt}
 use Rattle.station_set.specs.Sets.{has}
 use Rattle.station_set.proofs.Below.{search_below}

@@ -1,4 +1,4 @@
-use Rattle.std.proofs.Common.{◌≡◌, ◌+◌, ◌∷◌, ◌++◌, string_bytes, codes, sym, ap, ◌∙◌, arith}
+use Rattle.std.proofs.Common.{◌≡◌, ◌∷◌, ◌++◌, string_bytes, codes, sym, ap, ◌∙◌, arith}
 use Rattle.survey_text.specs.Printed.{spaced, members_text}
 use Rattle.survey_text.proofs.Texts.{members_none, members_more_yes, members_more_no}
 use Rattle.survey_text.proofs.line_of_set.Goals as goal
