@@ -2,7 +2,7 @@
 use Rattle.std.proofs.Common.{◌≡◌, ℕ, Bool, true, false, not, ◌&&◌, eqb, List, [], ◌∷◌, map, get_or, Some, None, Option, refl, ap, ap₂}
 use lib.Count.{ones, ones_in}
 use Rattle.std.specs.Option.{option_map}
-use Rattle.std.specs.List.{AllByRecursion as All}
+use Rattle.std.specs.List.{AllByRecursion}
 use Rattle.std.proofs.lemmas.Bool.{and_parts, eqb-true, false≢true}
 use Rattle.decline.specs.Numbers.{number_of}
 use Rattle.station_set.specs.Below.{all_below, any_below, count_below}
@@ -81,7 +81,7 @@ all_pass : List Row → Bool
 all_pass [] = true
 all_pass (row ∷ rows) = passes row && all_pass rows
 
-all_claimed : (rows : List Row) → all_pass rows ≡ true → All Claim rows
+all_claimed : (rows : List Row) → all_pass rows ≡ true → AllByRecursion Claim rows
 unfolding all_pass
 all_claimed [] e = tt
 all_claimed (row ∷ rows) e = let w = and_parts (passes row) (all_pass rows) e in (claimed row w.0, all_claimed rows w.1)

@@ -1,7 +1,7 @@
 -- One proof of all schedules: all are played by computation.
 use Rattle.std.proofs.Common.{◌≡◌, List, [], ◌∷◌, map, refl, ap}
 use lib.Count.{ones, ones_in}
-use Rattle.std.specs.List.{AllByRecursion as All}
+use Rattle.std.specs.List.{AllByRecursion}
 use Rattle.station_set.specs.Below.{all_below}
 use Rattle.station_set.specs.Sets.{has, set_of}
 use Rattle.quorum.specs.SiteSets.{share_site}
@@ -17,7 +17,7 @@ others : {A : Type 0} → List A → List A
 others [] = []
 others (x ∷ xs) = xs
 
-each_played : (all : List (List Line)) → map played all ≡ all → All (λ lines. played lines ≡ lines) all
+each_played : (all : List (List Line)) → map played all ≡ all → AllByRecursion (λ lines. played lines ≡ lines) all
 unfolding head_or others
 each_played [] e = tt
 each_played (lines ∷ rest) e = (ap (head_or []) e, each_played rest (ap others e))

@@ -1,6 +1,6 @@
 -- The schedules, worked out by hand from the rules, and what it means that they hold.
 use Rattle.std.specs.Prelude.{◌≡◌, List, [], ◌∷◌}
-use Rattle.std.specs.List.{AllByRecursion as All}
+use Rattle.std.specs.List.{AllByRecursion}
 use Rattle.examples.specs.Lines.{Line, played}
 use Rattle.examples.specs.Operations.{alone, written_and_read, held_catch_up, order_of_sends, overlapping_reads, other_register_taken, noted, votes_ahead, old_messages, owner_behind}
 use Rattle.examples.specs.Faults.{two_values, late_reply, repeated_votes, forged_report, faulty_receiver, one_site_lies}
@@ -38,4 +38,4 @@ schedules =
 
 -- each schedule is what the machine writes when it plays it
 abbrev pub SchedulesHold : Type 0
-SchedulesHold = All (λ lines. played lines ≡ lines) schedules
+SchedulesHold = AllByRecursion (λ lines. played lines ≡ lines) schedules

@@ -1,6 +1,6 @@
 -- The table of examples.
 use Rattle.std.specs.Prelude.{true, false, List, [], ◌∷◌, Some, None}
-use Rattle.std.specs.List.{AllByRecursion as All}
+use Rattle.std.specs.List.{AllByRecursion}
 use Rattle.examples.specs.Systems.{System, counting, sites}
 use Rattle.examples.specs.Rows.{Row, set_of_stations, making, taking_ready, write_dones, reports, Claim}
 
@@ -29,4 +29,4 @@ table =
 
 -- each row's claim holds
 abbrev pub ExamplesHold : Type 0
-ExamplesHold = All Claim table
+ExamplesHold = AllByRecursion Claim table

@@ -4,7 +4,7 @@ ghost use Rattle.decline.specs.Numbers.{number_of};
 ghost use Rattle.station_set.specs.Sets.{has};
 ghost use Rattle.quorum.specs.SiteSets.{site_of, share_site, one_site, lacks_one_site, SitesInWords, occurs, sites_occurring, SiteLimits, sites_bar};
 ghost use Rattle.quorum.specs.Reasons.{decline_of, MadeUnless, DeclinedWith};
-ghost use Rattle.std.proofs.Common.{arith, rules};
+ghost use Rattle.std.proofs.Common.{arith};
 ghost use Rattle.quorum.specs.SiteLaws.{sites_bounded, sites_seated, sites_empty, sites_subset, sites_superset, sites_overlap, sites_outside};
 
 use crate::unfit::Unfit;
@@ -134,7 +134,7 @@ impl QuorumSystem for BySite {
 
     ghost quorum = { λ q. lacks_one_site q.sites q.n };
 
-    ghost sized = { first_of (Prim.search rules, Prim.grind (arith, Self.row.coded.inj)) };
+    ghost sized = { λ q. omega arith };
 
     ghost bounded = { λ q. sites_bounded q.sites q.n (omega arith) };
 

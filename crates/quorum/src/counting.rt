@@ -3,7 +3,7 @@ ghost use Rattle.std.specs.Prelude.{◌≡◌, ◌*◌, ◌<◌, ◌≤◌, is_o
 ghost use Rattle.quorum.specs.CountingSets.{at_most, all_but, CountingInWords, CountingLimits, counting_bar};
 ghost use Rattle.quorum.specs.Reasons.{MadeUnless, DeclinedWith};
 ghost use Rattle.quorum.specs.CountingLaws.{counting_bounded, counting_seated, counting_empty, counting_subset, counting_superset, counting_overlap, counting_outside};
-ghost use Rattle.std.proofs.Common.{arith, rules};
+ghost use Rattle.std.proofs.Common.{arith};
 
 use crate::unfit::Unfit;
 use crate::{MOST_STATIONS, QuorumSystem};
@@ -49,7 +49,7 @@ impl QuorumSystem for Counting {
 
     ghost quorum = { λ q. all_but q.n q.t };
 
-    ghost sized = { first_of (Prim.search rules, Prim.grind (arith, Self.row.coded.inj)) };
+    ghost sized = { λ q. omega arith };
 
     ghost bounded = { λ q. counting_bounded q.n q.t };
 
