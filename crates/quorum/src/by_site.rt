@@ -98,7 +98,7 @@ fn first_bar(sites: &[u64]) -> Option<Unfit>
 
 // The table of the sites.
 fn table_of(sites: &[u64]) -> [u8; 10]
-    requires { (length sites.now ≤ 10) × (((s : ℕ) → s < length sites.now → site_of sites.now s < 10)) }
+    requires { (length sites.now ≤ 10) × ((s : ℕ) → s < length sites.now → site_of sites.now s < 10) }
     ensures whole { length result ≡ 10 }
     ensures front { take (length sites.now) result ≡ sites.now }
     ensures occurring { sites_occurring result (length sites.now) ≡ sites_occurring sites.now (length sites.now) }
