@@ -1,7 +1,8 @@
 -- Lists of sites: the first limit that one breaks, and a table that begins with one.
-use Rattle.std.proofs.Common.{◌≡◌, ℕ, ◌+◌, ◌<◌, ◌≤◌, cond, not, ◌&&◌, ◌||◌, eqb, ltb, List, length, get_or, take, drop, Some, None, Option, sym, ap, ◌∙◌, arith}
-use Rattle.std.proofs.lemmas.List.{ext_get_or, length-take-le, get_or-take, at_drop_more, at_drop_all}
-use Rattle.std.proofs.lemmas.Bool.{cond-true, cond-false, eq-eqb, ne_eqb, lt-ltb, le-ltb}
+use Rattle.std.proofs.Common.{◌≡◌, ℕ, ◌<◌, ◌≤◌, cond, not, ◌&&◌, ◌||◌, eqb, ltb, leb, List, [], ◌∷◌, length, get_or, take, Some, None, Option, sym, refl, ap, ◌∙◌, ⊎_elim, arith}
+use Rattle.std.specs.List.{find}
+use Rattle.std.proofs.lemmas.List.{ext_get_or, length-take-le, get_or-take}
+use Rattle.std.proofs.lemmas.Bool.{cases_lt, cond-true, cond-false, eq-eqb, ne_eqb, lt-ltb, le-ltb, lt-leb, le-leb}
 use Rattle.station_set.specs.Sets.{has, among, missing}
 use Rattle.station_set.proofs.Below.{all_same, any_same, count_same}
 use Rattle.quorum.specs.declared.unfit.Unfit.{Unfit}
@@ -26,31 +27,32 @@ bar_of_sites : (xs : List ℕ) → (length xs ≡ 0 → ⊥) → length xs ≤ 1
 unfolding sites_bar
 bar_of_sites xs some few = cond-false _ _ _ (ne_eqb (length xs) 0 some) ∙ cond-false _ _ _ (le-ltb 10 (length xs) few)
 
--- the sites before s are known
-abbrev Known : List ℕ → ℕ → Type 0
-Known xs s = (next : Option Unfit) → bad_site_or next (drop s xs) ≡ bad_site_or next xs
+-- the reason, by the first site above 9
+abbrev pub reason_or : Option Unfit → Option ℕ → Option Unfit
+reason_or next None = next
+reason_or next (Some site) = Some (NoSuchSite site)
 
-pub known_more : (xs : List ℕ) (s : ℕ) → s < length xs → site_of xs s < 10 → Known xs s → Known xs (s + 1)
-known_more xs s l small known next =
-    sym (at_drop_more (bad_site_or next) xs s 0 l ∙ cond-true _ _ _ (lt-ltb (site_of xs s) 10 small)) ∙ known next
+bad_site_found : (next : Option Unfit) (xs : List ℕ) → bad_site_or next xs ≡ reason_or next (find (leb 10) xs)
+bad_site_found next [] = refl
+bad_site_found next (x ∷ xs) =
+    ⊎_elim
+    (λ known. cond-true _ _ _ (lt-ltb x 10 known) ∙ bad_site_found next xs ∙ ap (reason_or next) (sym (cond-false _ _ _ (lt-leb 10 x known))))
+    (λ unknown. cond-false _ _ _ (le-ltb x 10 unknown) ∙ ap (reason_or next) (sym (cond-true _ _ _ (le-leb 10 x unknown))))
+    (cases_lt x 10)
 
-pub bar_of_unknown : (xs : List ℕ) (s : ℕ) → (length xs ≡ 0 → ⊥) → length xs ≤ 10 → s < length xs → 10 ≤ site_of xs s → Known xs s
-    → sites_bar xs ≡ Some (NoSuchSite (site_of xs s))
-bar_of_unknown xs s some few l large known =
-    bar_of_sites xs some few ∙ sym (known (last_bar xs))
-    ∙ at_drop_more (bad_site_or (last_bar xs)) xs s 0 l ∙ cond-false _ _ _ (le-ltb (site_of xs s) 10 large)
+-- what a list of one to ten sites breaks, by its first site above 9
+found_bar : (xs : List ℕ) (found : Option ℕ) → (length xs ≡ 0 → ⊥) → length xs ≤ 10 → find (leb 10) xs ≡ found → sites_bar xs ≡ reason_or (last_bar xs) found
+found_bar xs found some few e = bar_of_sites xs some few ∙ bad_site_found (last_bar xs) xs ∙ ap (reason_or (last_bar xs)) e
 
-all_known : (xs : List ℕ) (s : ℕ) → (length xs ≡ 0 → ⊥) → length xs ≤ 10 → length xs ≤ s → Known xs s → sites_bar xs ≡ last_bar xs
-all_known xs s some few done known =
-    bar_of_sites xs some few ∙ sym (known (last_bar xs)) ∙ at_drop_all (bad_site_or (last_bar xs)) xs s done
+pub bar_of_unknown : (xs : List ℕ) (site : ℕ) → (length xs ≡ 0 → ⊥) → length xs ≤ 10 → find (leb 10) xs ≡ Some site → sites_bar xs ≡ Some (NoSuchSite site)
+bar_of_unknown xs site some few e = found_bar xs _ some few e
 
-pub bar_of_few : (xs : List ℕ) (s : ℕ) → (length xs ≡ 0 → ⊥) → length xs ≤ 10 → length xs ≤ s → Known xs s
-    → sites_occurring xs (length xs) < 4 → sites_bar xs ≡ Some TooFewSites
-bar_of_few xs s some few done known small = all_known xs s some few done known ∙ cond-true _ _ _ (lt-ltb (sites_occurring xs (length xs)) 4 small)
+pub bar_of_few : (xs : List ℕ) → (length xs ≡ 0 → ⊥) → length xs ≤ 10 → find (leb 10) xs ≡ None → sites_occurring xs (length xs) < 4
+    → sites_bar xs ≡ Some TooFewSites
+bar_of_few xs some few e small = found_bar xs _ some few e ∙ cond-true _ _ _ (lt-ltb (sites_occurring xs (length xs)) 4 small)
 
-pub no_bar : (xs : List ℕ) (s : ℕ) → (length xs ≡ 0 → ⊥) → length xs ≤ 10 → length xs ≤ s → Known xs s
-    → 4 ≤ sites_occurring xs (length xs) → sites_bar xs ≡ None
-no_bar xs s some few done known four = all_known xs s some few done known ∙ cond-false _ _ _ (le-ltb (sites_occurring xs (length xs)) 4 four)
+pub no_bar : (xs : List ℕ) → (length xs ≡ 0 → ⊥) → length xs ≤ 10 → find (leb 10) xs ≡ None → 4 ≤ sites_occurring xs (length xs) → sites_bar xs ≡ None
+no_bar xs some few e four = found_bar xs _ some few e ∙ cond-false _ _ _ (le-ltb (sites_occurring xs (length xs)) 4 four)
 
 -- ---- a table that begins with the list
 
@@ -65,6 +67,14 @@ unfolding share_site
 same_one_site xs ys n same set =
     ap (λ t. among n set && t)
     (all_same n _ _ (λ s ls. all_same n _ _ (λ u lu. ap (λ k. not (has set s && has set u) || eqb k (site_of xs u)) (same s ls) ∙ ap (λ k. not (has set s && has set u) || eqb (site_of ys s) k) (same u lu))))
+
+-- the first n of the sites decide whether a set shares one
+pub share_front : (xs : List ℕ) (n : ℕ) → n ≤ length xs → (set : ℕ) → share_site (take n xs) (length (take n xs)) set ≡ share_site xs n set
+unfolding share_site
+share_front xs n room set =
+    let same = λ (k : ℕ) (h : k < n). get_or-take n xs k 0 h in
+    ap (λ m. share_site (take n xs) m set) (length-take-le n xs room)
+    ∙ all_same n _ _ (λ s ls. all_same n _ _ (λ u lu. ap (λ k. not (has set s && has set u) || eqb k (site_of (take n xs) u)) (same s ls) ∙ ap (λ k. not (has set s && has set u) || eqb (site_of xs s) k) (same u lu)))
 
 pub same_lacks : (xs ys : List ℕ) (n : ℕ) → ((k : ℕ) → k < n → site_of xs k ≡ site_of ys k) → (set : ℕ) → lacks_one_site xs n set ≡ lacks_one_site ys n set
 same_lacks xs ys n same set = ap (λ t. among n set && t) (same_one_site xs ys n same (missing n set))

@@ -2,6 +2,7 @@
 use Rattle.std.specs.Prelude.{ℕ, ◌-◌, ◌*◌, ◌<◌, ◌≤◌, Bool, cond, ◌&&◌, Some, None, Decides, Option, ◌==◌, nat_le, nat_lt}
 use Rattle.station_set.specs.Below.{count_below}
 use Rattle.station_set.specs.Sets.{has, Among, among, members}
+use Rattle.quorum.specs.Laws.{Families}
 use Rattle.quorum.specs.declared.unfit.Unfit.{Unfit}
 use Rattle.quorum.specs.declared.unfit.Unfit.TheVariants.{NoStations, TooManyStations, TooManyFaults}
 
@@ -12,6 +13,9 @@ at_most n t set = among n set && nat_le (members set) t
 -- at least n - t of the n stations
 abbrev pub all_but : ℕ → ℕ → ℕ → Bool
 all_but n t set = among n set && nat_le (n - t) (members set)
+
+abbrev pub counting : ℕ → ℕ → Families
+counting n t = record { stations = n; allowed = at_most n t; quorum = all_but n t }
 
 -- The same in words: each member is one of the n stations, and of these at most t, or at least n - t, are members.
 abbrev pub AtMost : ℕ → ℕ → ℕ → Type 0

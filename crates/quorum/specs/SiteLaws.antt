@@ -9,7 +9,7 @@ use Rattle.station_set.specs.Sets.{has, Inside, Among, among, common, missing}
 use Rattle.station_set.proofs.Below.{false_if_not, all_below_decides, any_below_decides, search_below, count_top}
 use Rattle.station_set.proofs.Members.{among_and, among_decides, same_members, has_none, has-common, has_missing_below, missing-among}
 use Rattle.quorum.specs.Laws.{OfStations, EmptyAllowed, SubsetAllowed, SupersetQuorum, OverlapNotAllowed, OutsideQuorum}
-use Rattle.quorum.specs.SiteSets.{site_of, share_site, one_site, lacks_one_site, OneSite, LacksOneSite, occurs, sites_occurring}
+use Rattle.quorum.specs.SiteSets.{site_of, share_site, one_site, lacks_one_site, by_site, OneSite, LacksOneSite, occurs, sites_occurring}
 
 module _ (sites : List ℕ) (n : ℕ) where
   either : (p q b : Bool) → (not (p && q) || b) ≡ true → p ≡ true → q ≡ true → b ≡ true
@@ -73,12 +73,12 @@ module _ (sites : List ℕ) (n : ℕ) (room : n ≤ 16) where
   pub sites_seated : OfStations n (lacks_one_site sites n)
   sites_seated a e = ((lacks_decides a).0 e).0
 
-  pub sites_empty : EmptyAllowed (one_site sites n)
+  pub sites_empty : EmptyAllowed (by_site sites n)
   sites_empty =
       (one_site_decides 0).1
       ((λ s member. absurd (both_ways _ (has_none s) member)), (λ s u member _. absurd (both_ways _ (has_none s) member)))
 
-  pub sites_subset : SubsetAllowed (one_site sites n)
+  pub sites_subset : SubsetAllowed (by_site sites n)
   sites_subset a b inside e =
       let w = (one_site_decides b).0 e in
       (one_site_decides a).1 ((λ s h. w.0 s (inside s h)), (λ s u hs hu. w.1 s u (inside s hs) (inside u hu)))
@@ -90,7 +90,7 @@ module _ (sites : List ℕ) (n : ℕ) (room : n ≤ 16) where
       let outside : has b s ≡ false = not-true _ (sym (has_missing_below n b s room l) ∙ member) in
       has_missing_below n a s room l ∙ not_from_false _ (false_if_not _ (λ h. both_ways _ outside (inside s h)))
 
-  pub sites_superset : SupersetQuorum n (lacks_one_site sites n)
+  pub sites_superset : SupersetQuorum (by_site sites n)
   sites_superset a b inside mine e =
       let w = (lacks_decides a).0 e in
       (lacks_decides b).1 (mine, sites_subset (missing n b) (missing n a) (missing_inside a b inside) w.1)
@@ -114,7 +114,7 @@ module _ (sites : List ℕ) (n : ℕ) (room : n ≤ 16) where
       at : (s : ℕ) → has (missing n (missing n a)) s ≡ has a s
       at s = ⊎_elim (inner s) (outer s) (cases_lt s n)
 
-  pub sites_outside : OutsideQuorum n (one_site sites n) (lacks_one_site sites n)
+  pub sites_outside : OutsideQuorum (by_site sites n)
   sites_outside a e =
       let mine = ((one_site_decides a).0 e).0 in
       (lacks_decides (missing n a)).1 (missing-among n a room, ap (one_site sites n) (missing_twice a mine) ∙ e)
@@ -194,5 +194,5 @@ module _ (sites : List ℕ) (n : ℕ) (room : n ≤ 16) where
         (apart s.0 q.0 fs fq (omega (arith, r.1, s.1)))
         (apart s.0 r.0 fs fr s.1)
 
-  pub sites_overlap : 4 ≤ sites_occurring sites n → OverlapNotAllowed (one_site sites n) (lacks_one_site sites n)
+  pub sites_overlap : 4 ≤ sites_occurring sites n → OverlapNotAllowed (by_site sites n)
   sites_overlap four a b qa qb = false_if_not _ (λ shared. no_shared_site a b qa qb shared four)

@@ -2,6 +2,7 @@
 use Rattle.std.specs.Prelude.{◌≡◌, ℕ, ◌<◌, ◌≤◌, Bool, true, false, cond, not, ◌&&◌, ◌||◌, ◌⊎◌, List, [], ◌∷◌, length, Some, None, Decides, Option, ◌==◌, nat_eq, nat_lt, slice_index}
 use Rattle.station_set.specs.Below.{all_below, any_below, count_below}
 use Rattle.station_set.specs.Sets.{has, Among, among, missing}
+use Rattle.quorum.specs.Laws.{Families}
 use Rattle.quorum.specs.declared.unfit.Unfit.{Unfit}
 use Rattle.quorum.specs.declared.unfit.Unfit.TheVariants.{NoStations, TooManyStations, NoSuchSite, TooFewSites}
 
@@ -20,6 +21,9 @@ one_site sites n set = among n set && share_site sites n set
 -- a set of the n stations whose missing stations are empty or share one site
 abbrev pub lacks_one_site : List ℕ → ℕ → ℕ → Bool
 lacks_one_site sites n set = among n set && one_site sites n (missing n set)
+
+abbrev pub by_site : List ℕ → ℕ → Families
+by_site sites n = record { stations = n; allowed = one_site sites n; quorum = lacks_one_site sites n }
 
 -- the same in words: the set is empty, or there is a site at which each member stands
 abbrev pub OneSite : List ℕ → ℕ → ℕ → Type 0

@@ -1,8 +1,9 @@
 //! Quorums by site: the stations of one site may be faulty together.
-ghost use Rattle.std.specs.Prelude.{◌≡◌, ℕ, ◌<◌, ◌≤◌, true, length, take, is_ok, Decides, MatchOption};
+ghost use Rattle.std.specs.Prelude.{◌≡◌, ℕ, ◌<◌, ◌≤◌, true, false, length, take, is_ok, Decides, MatchOption, MatchResult, nat_le};
+ghost use Rattle.std.specs.List.{find};
 ghost use Rattle.decline.specs.Numbers.{number_of};
 ghost use Rattle.station_set.specs.Sets.{has};
-ghost use Rattle.quorum.specs.SiteSets.{site_of, share_site, one_site, lacks_one_site, SitesInWords, occurs, sites_occurring, SiteLimits, sites_bar};
+ghost use Rattle.quorum.specs.SiteSets.{site_of, share_site, by_site, SitesInWords, occurs, sites_occurring, SiteLimits, sites_bar};
 ghost use Rattle.quorum.specs.Reasons.{decline_of, MadeUnless, DeclinedWith};
 ghost use Rattle.std.proofs.Common.{arith};
 ghost use Rattle.quorum.specs.SiteLaws.{sites_bounded, sites_seated, sites_empty, sites_subset, sites_superset, sites_overlap, sites_outside};
@@ -29,29 +30,30 @@ pub struct BySite {
 }
 
 // Whether each member of the set stands at the site.
-fn all_at(sites: &[u8], n: usize, set: u16, site: u8) -> bool
-    requires { n ≤ length sites.now }
-    ensures { Decides result ((s : ℕ) → s < n → has set s ≡ true → site_of sites.now s ≡ site) }
+fn all_at(sites: &[u8], set: u16, site: u8) -> bool
+    ensures { Decides result ((s : ℕ) → s < length sites.now → has set s ≡ true → site_of sites.now s ≡ site) }
 {
-    for s in 0..n {
-        if contains(set, s) && sites[s] != site {
-            return false;
-        }
-    }
-    true
+    sites
+        .iter()
+        .enumerate()
+        .all(|(s, at)| !contains(set, s) || *at == site)
+}
+
+// The first of the n stations that is in the set.
+fn first_member(n: usize, set: u16) -> Option<usize>
+    ensures { MatchOption result ((s : ℕ) → s < n → has set s ≡ false) (λ first. (first < n) × (has set first ≡ true)) }
+{
+    (0..n).find(|s| contains(set, *s))
 }
 
 // Whether any two members of the set share their site.
-fn shares_site(sites: &[u8], n: usize, set: u16) -> bool
-    requires { n ≤ length sites.now }
-    ensures { result ≡ share_site sites.now n set }
+fn shares_site(sites: &[u8], set: u16) -> bool
+    ensures { result ≡ share_site sites.now (length sites.now) set }
 {
-    for s in 0..n {
-        if contains(set, s) {
-            return all_at(sites, n, set, sites[s]);
-        }
+    match first_member(sites.len(), set) {
+        Some(first) => all_at(sites, set, sites[first]),
+        None => true,
     }
-    true
 }
 
 // Whether a station stands at the site.
@@ -65,35 +67,35 @@ fn site_occurs(sites: &[u64], site: u64) -> bool
 fn count_sites(sites: &[u64]) -> usize
     ensures { result ≡ sites_occurring sites.now (length sites.now) }
 {
-    let mut count = 0;
-    for site in 0..SITES {
-        if site_occurs(sites, site) {
-            count += 1;
-        }
-    }
-    count
+    (0..SITES).filter(|site| site_occurs(sites, *site)).count()
 }
 
-// The first limit that the list breaks.
-fn first_bar(sites: &[u64]) -> Option<Unfit>
-    ensures bar { result ≡ sites_bar sites.now }
-    ensures limits { MatchOption result (SiteLimits sites.now) (λ reason. (SiteLimits sites.now → ⊥) × (number_of (decline_of reason) ≡ 14)) }
+// The first site number that is no site's.
+fn first_unknown(sites: &[u64]) -> Option<u64>
+    ensures first { result ≡ find (nat_le 10) sites.now }
+    ensures known { MatchOption result ((s : ℕ) → s < length sites.now → site_of sites.now s < 10) (λ site. (s : ℕ) × (s < length sites.now) × (10 ≤ site_of sites.now s)) }
+{
+    sites.iter().copied().find(|site| *site >= SITES)
+}
+
+// Err with the first limit that the list breaks.
+fn check_limits(sites: &[u64]) -> Result<(), Unfit>
+    ensures answer { MadeUnless (sites_bar sites.now) (λ _. Unit {0}) result }
+    ensures limits { MatchResult result (λ _. SiteLimits sites.now) (λ reason. (SiteLimits sites.now → ⊥) × (number_of (decline_of reason) ≡ 14)) }
 {
     if sites.is_empty() {
-        return Some(Unfit::NoStations);
+        return Err(Unfit::NoStations);
     }
     if sites.len() > MOST_STATIONS {
-        return Some(Unfit::TooManyStations);
+        return Err(Unfit::TooManyStations);
     }
-    for site in sites {
-        if *site >= SITES {
-            return Some(Unfit::NoSuchSite(*site));
-        }
+    if let Some(site) = first_unknown(sites) {
+        return Err(Unfit::NoSuchSite(site));
     }
     if count_sites(sites) < FEWEST_SITES {
-        return Some(Unfit::TooFewSites);
+        return Err(Unfit::TooFewSites);
     }
-    None
+    Ok(())
 }
 
 // The table of the sites.
@@ -117,22 +119,23 @@ impl BySite {
         ensures declined { DeclinedWith 14 result }
         ensures limits { Decides (is_ok result) (SiteLimits sites.now) }
     {
-        match first_bar(sites) {
-            Some(reason) => Err(reason),
-            None => Ok(BySite {
-                n: sites.len(),
-                sites: table_of(sites),
-            }),
-        }
+        check_limits(sites)?;
+        Ok(BySite {
+            n: sites.len(),
+            sites: table_of(sites),
+        })
+    }
+
+    // The site of each station.
+    fn sites(&self) -> &[u8]
+        ensures { result.now ≡ take self.now.n self.now.sites }
+    {
+        &self.sites[..self.n]
     }
 }
 
 impl QuorumSystem for BySite {
-    ghost stations = { λ q. q.n };
-
-    ghost allowed = { λ q. one_site q.sites q.n };
-
-    ghost quorum = { λ q. lacks_one_site q.sites q.n };
+    ghost families = { λ q. by_site q.sites q.n };
 
     ghost sized = { λ q. omega arith };
 
@@ -155,7 +158,7 @@ impl QuorumSystem for BySite {
     }
 
     fn is_allowed(&self, set: u16) -> bool {
-        is_among(self.n, set) && shares_site(&self.sites, self.n, set)
+        is_among(self.n, set) && shares_site(self.sites(), set)
     }
 
     fn is_quorum(&self, set: u16) -> bool {

@@ -1,5 +1,6 @@
 -- Laws of tests over the numbers below n.
-use Rattle.std.proofs.Common.{◌≡◌, ℕ, zero, suc, ◌+◌, ◌<◌, ◌≤◌, Bool, true, false, cond, not, ◌&&◌, ◌||◌, ◌⊎◌, Decides, refl, ap, ◌∙◌, inl, inr, ⊎_elim, add-zero, add-one, arith}
+use Rattle.std.proofs.Common.{◌≡◌, ℕ, zero, suc, ◌+◌, ◌<◌, count_by, zero-add, sym, ◌≤◌, Bool, true, false, cond, not, ◌&&◌, ◌||◌, ◌⊎◌, Decides, refl, ap, ◌∙◌, inl, inr, ⊎_elim, add-zero, add-one, arith}
+use Rattle.std.specs.List.{fold, range_with_len}
 use Rattle.std.proofs.lemmas.Bool.{cases_Bool, both_ways, cond_both, cond-true, cond-false}
 use Rattle.std.proofs.lemmas.Bool.Decides.{Decides-below_and, Decides-below_or}
 use Rattle.station_set.specs.Below.{all_below, any_below, count_below}
@@ -54,6 +55,17 @@ count_more_yes n p e = count_more n p ∙ ap (λ b. count_below n p + cond b 1 0
 
 pub count_more_no : (n : ℕ) (p : ℕ → Bool) → p n ≡ false → count_below (n + 1) p ≡ count_below n p
 count_more_no n p e = count_more n p ∙ ap (λ b. count_below n p + cond b 1 0) e ∙ add-zero (count_below n p)
+
+-- counting along a range, as a chain of iterators does
+count_along : (p : ℕ → Bool) (a n : ℕ) → fold (λ c x. c + cond (p x) 1 0) (count_below a p) (range_with_len a n) ≡ count_below (a + n) p
+count_along p a zero = ap (λ k. count_below k p) (sym (add-zero a))
+count_along p a (suc n) =
+    ap (λ c. fold (λ c x. c + cond (p x) 1 0) c (range_with_len (a + 1) n)) (sym (count_more a p))
+    ∙ count_along p (a + 1) n ∙ ap (λ k. count_below k p) (omega arith)
+
+pub count_by_range : (n : ℕ) (p : ℕ → Bool) → count_by p (range_with_len 0 n) ≡ count_below n p
+count_by_range n p =
+    ap (λ c. fold (λ c x. c + cond (p x) 1 0) c (range_with_len 0 n)) (sym (count_none p)) ∙ count_along p 0 n ∙ ap (λ k. count_below k p) (zero-add n)
 
 pub count_le : (n : ℕ) (p : ℕ → Bool) → count_below n p ≤ n
 unfolding count_below
