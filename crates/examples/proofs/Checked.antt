@@ -13,7 +13,7 @@ use Rattle.machine.specs.declared.call.Call.TheVariants.{Take, Forge}
 use Rattle.machine.specs.Publishing.{is_none}
 use Rattle.machine.specs.Operations.{fresh_reports}
 use Rattle.machine.specs.Calls.{answers, is_idle}
-use Rattle.examples.specs.Systems.{size_of, allowed_in, quorum_in, bar_of, setting, stations}
+use Rattle.examples.specs.Systems.{families_of, bar_of, setting, stations}
 use Rattle.examples.specs.Rows.{Row, set_of_stations, making, taking_ready, write_dones, reports, new_bench, forged_ready, declined_with, ended_write, begun, after_dones, Claim}
 use Rattle.examples.specs.Table.{table, ExamplesHold}
 
@@ -58,7 +58,7 @@ same_numbers_true (m ∷ ms) (n ∷ ns) e =
 -- whether a row's claim holds
 passes : Row → Bool
 passes (set_of_stations system members allowed quorum) =
-    same (allowed_in system (stations members)) allowed && same (quorum_in system (stations members)) quorum
+    same ((families_of system).allowed (stations members)) allowed && same ((families_of system).quorum (stations members)) quorum
 passes (making system number) = same_number (option_map (λ reason. number_of (decline_of reason)) (bar_of system)) number
 passes (taking_ready system x number) =
     same_numbers (map declined_with (answers (setting system) (new_bench system) (Forge (forged_ready x) ∷ Take 0 ∷ []))) (None ∷ number ∷ [])
@@ -66,8 +66,8 @@ passes (write_dones system from number) =
     let last = after_dones (setting system) (begun system) from in
     same_number (ended_write last.answer) number && same (is_idle (last.state.station 0).stage) (not (is_none number))
 passes (reports system reported number fresh quorum) =
-    eqb (fresh_reports (size_of system) number (first (size_of system)) (λ k. get_or reported k 0)) (stations fresh)
-    && same (quorum_in system (stations fresh)) quorum
+    eqb (fresh_reports (families_of system).stations number (first (families_of system).stations) (λ k. get_or reported k 0)) (stations fresh)
+    && same ((families_of system).quorum (stations fresh)) quorum
 
 claimed : (row : Row) → passes row ≡ true → Claim row
 unfolding passes

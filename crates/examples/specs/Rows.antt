@@ -12,7 +12,7 @@ use Rattle.machine.specs.State.{Setting, State}
 use Rattle.machine.specs.Publishing.{is_none}
 use Rattle.machine.specs.Operations.{Outcome, fresh_reports, on_write_done}
 use Rattle.machine.specs.Calls.{opened, step, answers, is_idle}
-use Rattle.examples.specs.Systems.{System, size_of, allowed_in, quorum_in, bar_of, setting, stations}
+use Rattle.examples.specs.Systems.{System, families_of, bar_of, setting, stations}
 
 pub data Row : Type 0 where
   -- a set of stations, whether the system allows it, and whether it is a quorum
@@ -64,7 +64,7 @@ after_dones c outcome (k ∷ from) = after_dones c (on_write_done c 0 k 1 outcom
 -- what a row claims
 abbrev pub Claim : Row → Type 0
 Claim (set_of_stations system members allowed quorum) =
-    (allowed_in system (stations members) ≡ allowed) × (quorum_in system (stations members) ≡ quorum)
+    ((families_of system).allowed (stations members) ≡ allowed) × ((families_of system).quorum (stations members) ≡ quorum)
 Claim (making system number) = option_map (λ reason. number_of (decline_of reason)) (bar_of system) ≡ number
 Claim (taking_ready system x number) =
     map declined_with (answers (setting system) (new_bench system) (Forge (forged_ready x) ∷ Take 0 ∷ [])) ≡ None ∷ number ∷ []
@@ -72,5 +72,5 @@ Claim (write_dones system from number) =
     let last = after_dones (setting system) (begun system) from in
     (ended_write last.answer ≡ number) × (is_idle (last.state.station 0).stage ≡ not (is_none number))
 Claim (reports system reported number fresh quorum) =
-    (fresh_reports (size_of system) number (first (size_of system)) (λ k. slice_index reported k) ≡ stations fresh)
-    × (quorum_in system (stations fresh) ≡ quorum)
+    (fresh_reports (families_of system).stations number (first (families_of system).stations) (λ k. slice_index reported k) ≡ stations fresh)
+    × ((families_of system).quorum (stations fresh) ≡ quorum)

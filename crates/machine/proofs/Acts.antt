@@ -106,21 +106,21 @@ module _ {V : Type 0} (c : Setting V) (f : ℕ) where
   Guard (GotReady p i j k v) s = In f i × ((s.cell i j).readies k ≡ None) × At s p (Ready k i j (suc (number s i j)) v)
   Guard (SendReady i j v) s =
       In f i × ((s.cell i j).copy.readied ≡ false)
-      × ((c.quorum (echo_voters c i j v s) ≡ true) ⊎ (c.allowed (ready_voters c i j v s) ≡ false))
+      × ((c.system.quorum (echo_voters c i j v s) ≡ true) ⊎ (c.system.allowed (ready_voters c i j v s) ≡ false))
   Guard (TakeValue i j v) s =
-      In f i × (c.quorum (ready_voters c i j v s) ≡ true)
-      × (((s.cell i j).copy.readied ≡ true) ⊎ (c.allowed (ready_voters c i j v s) ≡ true))
+      In f i × (c.system.quorum (ready_voters c i j v s) ≡ true)
+      × (((s.cell i j).copy.readied ≡ true) ⊎ (c.system.allowed (ready_voters c i j v s) ≡ true))
   Guard (GotReport p i k j r x reported) s =
       In f i × ((s.station i).stage ≡ Querying j r reported) × (has reported k ≡ false) × At s p (StateOf k i j r x)
   Guard (Freshen i j r reported) s =
       In f i × ((s.station i).stage ≡ Querying j r reported)
-      × (c.quorum (fresh_reports s.figures.stations (number s i j) reported (s.reports i)) ≡ true)
+      × (c.system.quorum (fresh_reports s.figures.stations (number s i j) reported (s.reports i)) ≡ true)
   Guard (GotDone p i k x done) s = In f i × ((s.station i).stage ≡ Writing x done) × At s p (WriteDone k i x)
   Guard (EndWrite p i k x done) s =
-      In f i × ((s.station i).stage ≡ Writing x done) × At s p (WriteDone k i x) × (c.quorum (with_station done k) ≡ true)
+      In f i × ((s.station i).stage ≡ Writing x done) × At s p (WriteDone k i x) × (c.system.quorum (with_station done k) ≡ true)
   Guard (GotCaught p i k j x v done) s = In f i × ((s.station i).stage ≡ Catching j x v done) × At s p (CatchUpDone k i j x)
   Guard (EndRead p i k j x v done) s =
-      In f i × ((s.station i).stage ≡ Catching j x v done) × At s p (CatchUpDone k i j x) × (c.quorum (with_station done k) ≡ true)
+      In f i × ((s.station i).stage ≡ Catching j x v done) × At s p (CatchUpDone k i j x) × (c.system.quorum (with_station done k) ≡ true)
   Guard (Report p i k j r) s = In f i × At s p (Read k i j r)
   Guard (AnswerNow p i k j x) s = In f i × At s p (CatchUp k i j x) × (x ≤ number s i j)
   Guard (Hold p i k j x) s = In f i × At s p (CatchUp k i j x) × (number s i j < x)
@@ -204,7 +204,7 @@ module _ {V : Type 0} (c : Setting V) (f : ℕ) where
       (λ _. stay)
 
   abbrev Joined : ℕ → ℕ → V → State V → Type 0
-  Joined i j v s = ((s.cell i j).copy.readied ≡ true) ⊎ (c.allowed (ready_voters c i j v s) ≡ true)
+  Joined i j v s = ((s.cell i j).copy.readied ≡ true) ⊎ (c.system.allowed (ready_voters c i j v s) ≡ true)
 
   joined : (i j : ℕ) (v : V) (s : State V) → Joined i j v (join_readies c i j v s)
   joined i j v s =
@@ -245,7 +245,7 @@ module _ {V : Type 0} (c : Setting V) (f : ℕ) where
       cond_both (eqb y x) _ _ (Went s)
       (λ t. let q = eqb-true y x t in
       let e' : (s.station i).stage ≡ Writing x done = rw q at e in
-      cond_both (c.quorum (with_station done k)) _ _ (Went s)
+      cond_both (c.system.quorum (with_station done k)) _ _ (Went s)
       (λ u. write_ends p i k x done (h, e', m, u))
       (λ _. quietly (one (GotDone p i k x done) s tt (h, e', m)) tt))
       (λ t. quietly (drop p s _ m (λ d q. grind (arith, nat_tests))) tt)
@@ -261,7 +261,7 @@ module _ {V : Type 0} (c : Setting V) (f : ℕ) where
       cond_both (eqb caught j && eqb y x) _ _ (Went s)
       (λ t. let w = and_parts _ _ t in let q = eqb-true caught j w.0 in let q' = eqb-true y x w.1 in
       let e' : (s.station i).stage ≡ Catching j x v done = rw (q, q') at e in
-      cond_both (c.quorum (with_station done k)) _ _ (Went s)
+      cond_both (c.system.quorum (with_station done k)) _ _ (Went s)
       (λ u. read_ends p i k j x v done (h, e', m, u))
       (λ _. quietly (one (GotCaught p i k j x v done) s tt (h, e', m)) tt))
       (λ t. quietly (drop p s _ m (λ v' d q. grind (arith, nat_tests))) tt)
@@ -352,7 +352,7 @@ module _ {V : Type 0} (c : Setting V) (f : ℕ) where
 
   -- the stations that the machine calls faulty are outside
   abbrev pub Fits : State V → Type 0
-  Fits s = (s.figures.stations ≡ c.size) × Inside s.figures.faulty f
+  Fits s = (s.figures.stations ≡ c.system.stations) × Inside s.figures.faulty f
 
   correct_inside : (s : State V) → Fits s → (i : ℕ) → In f i → is_faulty s i ≡ false
   correct_inside s w i h = ⊎_elim (λ e. absurd (both_ways _ h (w.1 i e))) (λ e. e) (cases_Bool (is_faulty s i))

@@ -68,7 +68,7 @@ either : (a b d : Bool) → ((a || b) && d) ≡ false → (a && d) ≡ false
 either true b d e = e
 either false b d e = refl
 
-module _ {V : Type 0} (R : Run V) (L : Lawful R.setting) (ok : R.setting.allowed R.opening.faulty ≡ true) where
+module _ {V : Type 0} (R : Run V) (L : Lawful R.setting) (ok : R.setting.system.allowed R.opening.faulty ≡ true) where
   abbrev c : Setting V
   c = R.setting
 
@@ -153,7 +153,7 @@ module _ {V : Type 0} (R : Run V) (L : Lawful R.setting) (ok : R.setting.allowed
       climb (λ m. Later c f v₀ (known (after R p) (history_at p)) (known (after R m) (history_at m))) p q l
       (λ m _ _ w. later_trans c f v₀ _ _ _ w (next_at m).later) (later_refl c f v₀ _)
 
-  pub sized_at : (p : ℕ) → (after R p).figures.stations ≡ c.size
+  pub sized_at : (p : ℕ) → (after R p).figures.stations ≡ c.system.stations
   sized_at p = (holds_at p).fits.0
 
   pub numbers_rise : (p q k j : ℕ) → p ≤ q → In f k → number (after R p) k j ≤ number (after R q) k j
@@ -164,9 +164,9 @@ module _ {V : Type 0} (R : Run V) (L : Lawful R.setting) (ok : R.setting.allowed
   -- what call p does to the operation of station i
   pub data Along (i p : ℕ) : Type 0 where
     goes : Steady c f i (after R p) (after R (suc p)) → ends_operation i (answer_at R p) ≡ false → begins_operation R i p ≡ false → Along i p
-    begins_writing : (v : V) → call_at R p ≡ Some (BeginWrite i v) → answer_at R p ≡ Some Done → i < c.size → ((after R p).station i).stage ≡ Idle
+    begins_writing : (v : V) → call_at R p ≡ Some (BeginWrite i v) → answer_at R p ≡ Some Done → i < c.system.stations → ((after R p).station i).stage ≡ Idle
         → after R (suc p) ≡ begin_write i v (after R p) → Along i p
-    begins_reading : (j : ℕ) → call_at R p ≡ Some (BeginRead i j) → answer_at R p ≡ Some Done → i < c.size → ((after R p).station i).stage ≡ Idle
+    begins_reading : (j : ℕ) → call_at R p ≡ Some (BeginRead i j) → answer_at R p ≡ Some Done → i < c.system.stations → ((after R p).station i).stage ≡ Idle
         → after R (suc p) ≡ begin_read i j (after R p) → Along i p
     ends_writing : (q k x done : ℕ) → Guard c f (EndWrite q i k x done) (after R p) → answer_at R p ≡ Some (WriteEnded i x)
         → after R (suc p) ≡ with_stage i Idle (remove q (after R p)) → Along i p
@@ -322,9 +322,9 @@ module _ {V : Type 0} (R : Run V) (L : Lawful R.setting) (ok : R.setting.allowed
   -- where the operation of a stage began
   abbrev pub Origin : ℕ → ℕ → Stage V → Type 0
   Origin i p Idle = Unit {0}
-  Origin i p (Writing x done) = (b : ℕ) × (v : V) × (b < p) × (i < c.size) × WriteBegins R i b x v × NoneEnds R i b p
-  Origin i p (Querying j r reported) = (b : ℕ) × (b < p) × (i < c.size) × ReadBegins R i j b × NoneEnds R i b p
-  Origin i p (Catching j x v done) = (b : ℕ) × (b < p) × (i < c.size) × ReadBegins R i j b × NoneEnds R i b p
+  Origin i p (Writing x done) = (b : ℕ) × (v : V) × (b < p) × (i < c.system.stations) × WriteBegins R i b x v × NoneEnds R i b p
+  Origin i p (Querying j r reported) = (b : ℕ) × (b < p) × (i < c.system.stations) × ReadBegins R i j b × NoneEnds R i b p
+  Origin i p (Catching j x v done) = (b : ℕ) × (b < p) × (i < c.system.stations) × ReadBegins R i j b × NoneEnds R i b p
 
   none_more : (i b p : ℕ) → NoneEnds R i b p → ends_operation i (answer_at R p) ≡ false → NoneEnds R i b (suc p)
   none_more i b p w n m l u =
@@ -401,7 +401,7 @@ module _ {V : Type 0} (R : Run V) (L : Lawful R.setting) (ok : R.setting.allowed
           (q, k, done, rw ey at gd)
 
   -- each end has a beginning
-  pub read_began : (i j e x : ℕ) (v : V) → In f i → answer_at R e ≡ Some (ReadEnded i j x v) → (i < c.size) × ((b : ℕ) × CompletedRead R i j b e x v)
+  pub read_began : (i j e x : ℕ) (v : V) → In f i → answer_at R e ≡ Some (ReadEnded i j x v) → (i < c.system.stations) × ((b : ℕ) × CompletedRead R i j b e x v)
   read_began i j e x v inside a =
       let w = read_end i e j x v inside a in
       let o = subst (Origin i e) w.3.1 (origin i e inside) in

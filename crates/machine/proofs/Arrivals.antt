@@ -16,7 +16,7 @@ use Rattle.machine.proofs.Frames.{Casting, Asks, asks_begin_read, asks_got_repor
 use Rattle.machine.proofs.History.{History, no_history, note}
 use Rattle.machine.proofs.Voices.{Truthful, Honest}
 
-module _ {V : Type 0} (c : Setting V) (L : Lawful c) (f : ℕ) (ok : c.allowed f ≡ true) (v₀ : V) where
+module _ {V : Type 0} (c : Setting V) (L : Lawful c) (f : ℕ) (ok : c.system.allowed f ≡ true) (v₀ : V) where
   -- a publication is past, or it is the one at work and P holds of it
   abbrev PastOr : Cell V → ℕ → Type 0 → Type 0
   PastOr z x P = (x ≤ z.copy.number) ⊎ ((x ≡ suc z.copy.number) × P)
@@ -36,9 +36,9 @@ module _ {V : Type 0} (c : Setting V) (L : Lawful c) (f : ℕ) (ok : c.allowed f
   Arrives s m = Mem m s.pool ⊎ Heeded s m
 
   pub record Arrivals (s : State V) (h : History V) : Type 0 where
-    pub inits : (k i x : ℕ) (v : V) → In f k → In f i → i < c.size → h.published k x ≡ Some v → Arrives s (Init k i x v)
-    pub echoes : (k i j x : ℕ) (v : V) → In f k → In f i → i < c.size → h.echoed k j x ≡ Some v → Arrives s (Echo k i j x v)
-    pub readies : (k i j x : ℕ) (v : V) → In f k → In f i → i < c.size → h.readied k j x ≡ Some v → Arrives s (Ready k i j x v)
+    pub inits : (k i x : ℕ) (v : V) → In f k → In f i → i < c.system.stations → h.published k x ≡ Some v → Arrives s (Init k i x v)
+    pub echoes : (k i j x : ℕ) (v : V) → In f k → In f i → i < c.system.stations → h.echoed k j x ≡ Some v → Arrives s (Echo k i j x v)
+    pub readies : (k i j x : ℕ) (v : V) → In f k → In f i → i < c.system.stations → h.readied k j x ≡ Some v → Arrives s (Ready k i j x v)
 
   -- how a cell may change: it keeps what it has, or goes on to the next publication
   record KeepsAll (z z' : Cell V) : Type 0 where
@@ -136,7 +136,7 @@ module _ {V : Type 0} (c : Setting V) (L : Lawful c) (f : ℕ) (ok : c.allowed f
         takes (remove p s) p m₀ at [] (sym (append-nil (removed s.pool p))) (λ i j _. moves_none (s.cell i j))
         (λ e q. spent m₀ (all_nth (Honest c L f ok v₀ h) s.pool p m₀ T.honest at) e q w)
 
-    module _ (sized : s.figures.stations ≡ c.size) where
+    module _ (sized : s.figures.stations ≡ c.system.stations) where
       by_begin_write : (i : ℕ) (v : V) → Guard c f (StartWrite i v) s → Arrivals (apply c f (StartWrite i v) s) (note c f v₀ (StartWrite i v) s h)
       by_begin_write i v gd =
           let x : ℕ = suc (s.station i).written in
@@ -236,7 +236,7 @@ module _ {V : Type 0} (c : Setting V) (L : Lawful c) (f : ℕ) (ok : c.allowed f
       act_arrivals (AnswerNow p i k j x) gd = nothing_new _ (by_asks _ (asks_answer c f p i k j x s gd))
       act_arrivals (Hold p i k j x) gd = nothing_new _ (by_asks _ (asks_hold c f p i k j x s gd))
 
-module _ {V : Type 0} (c : Setting V) (L : Lawful c) (o : Opening V) (ok : c.allowed o.faulty ≡ true) where
+module _ {V : Type 0} (c : Setting V) (L : Lawful c) (o : Opening V) (ok : c.system.allowed o.faulty ≡ true) where
   pub arrivals_opened : Arrivals c L o.faulty ok o.value (opened c o) (no_history o.value)
   unfolding no_history
   arrivals_opened =

@@ -15,7 +15,7 @@ module _ {V : Type 0} (c : Setting V) (L : Lawful c) where
   pub calm_opened : (o : Opening V) → Calm (opened c o)
   calm_opened o = record { cells = (cells_opened c L o).each; stages = (stages_opened c L o).each }
 
-  pub calm_step : (s : State V) → s.figures.stations ≡ c.size → Calm s → (call : Call V) → Calm (step c s call).state
+  pub calm_step : (s : State V) → s.figures.stations ≡ c.system.stations → Calm s → (call : Call V) → Calm (step c s call).state
   calm_step s sized h call =
       record {
         cells = (cells_step c L s sized (record { each = h.cells }) call).each;

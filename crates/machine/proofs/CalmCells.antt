@@ -19,16 +19,16 @@ use Rattle.machine.proofs.Quorums.{voter_said, votes_count, voters-among, no_quo
 
 module _ {V : Type 0} (c : Setting V) (L : Lawful c) where
   pub record CalmCell (n : ℕ) (z : Cell V) : Type 0 where
-    pub no_ready : (v : V) → c.quorum (voters c n z.readies v) ≡ false
-    pub low_ready : z.copy.readied ≡ false → (v : V) → c.allowed (voters c n z.readies v) ≡ true
-    pub no_echo : z.copy.readied ≡ false → (v : V) → c.quorum (voters c n z.echoes v) ≡ false
+    pub no_ready : (v : V) → c.system.quorum (voters c n z.readies v) ≡ false
+    pub low_ready : z.copy.readied ≡ false → (v : V) → c.system.allowed (voters c n z.readies v) ≡ true
+    pub no_echo : z.copy.readied ≡ false → (v : V) → c.system.quorum (voters c n z.echoes v) ≡ false
 
   pub record CalmCells (s : State V) : Type 0 where
     pub each : (a b : ℕ) → CalmCell s.figures.stations (s.cell a b)
 
   -- One vote more
 
-  module _ (n : ℕ) (sized : n ≡ c.size) where
+  module _ (n : ℕ) (sized : n ≡ c.system.stations) where
     room : n ≤ 16
     room = omega (arith, L.laws.sized)
 
@@ -42,17 +42,17 @@ module _ {V : Type 0} (c : Setting V) (L : Lawful c) where
     same_or_other : (v w : V) → (v ≡ w) ⊎ (v ≡ w → ⊥)
     same_or_other v w = ⊎_elim (λ e. inl ((L.exact v w).0 e)) (λ e. inr (λ q. both_ways _ e ((L.exact v w).1 q))) (cases_Bool (c.same v w))
 
-    no_quorum_yet : (votes : ℕ → Option V) (k : ℕ) (v : V) → ((w : V) → c.quorum (voters c n votes w) ≡ false)
-        → c.quorum (voters c n (put k (Some v) votes) v) ≡ false → (w : V) → c.quorum (voters c n (put k (Some v) votes) w) ≡ false
+    no_quorum_yet : (votes : ℕ → Option V) (k : ℕ) (v : V) → ((w : V) → c.system.quorum (voters c n votes w) ≡ false)
+        → c.system.quorum (voters c n (put k (Some v) votes) v) ≡ false → (w : V) → c.system.quorum (voters c n (put k (Some v) votes) w) ≡ false
     no_quorum_yet votes k v old new w =
-        ⊎_elim (λ q. subst (λ u. c.quorum (voters c n (put k (Some v) votes) u) ≡ false) q new)
+        ⊎_elim (λ q. subst (λ u. c.system.quorum (voters c n (put k (Some v) votes) u) ≡ false) q new)
         (λ ne. quorum_less c L _ (voters c n votes w) (other_voters votes k v w ne) (subst (λ m. (s : ℕ) → has (voters c n votes w) s ≡ true → s < m) sized (voters-among c L n room votes w)) (old w))
         (same_or_other v w)
 
-    still_allowed : (votes : ℕ → Option V) (k : ℕ) (v : V) → ((w : V) → c.allowed (voters c n votes w) ≡ true)
-        → c.allowed (voters c n (put k (Some v) votes) v) ≡ true → (w : V) → c.allowed (voters c n (put k (Some v) votes) w) ≡ true
+    still_allowed : (votes : ℕ → Option V) (k : ℕ) (v : V) → ((w : V) → c.system.allowed (voters c n votes w) ≡ true)
+        → c.system.allowed (voters c n (put k (Some v) votes) v) ≡ true → (w : V) → c.system.allowed (voters c n (put k (Some v) votes) w) ≡ true
     still_allowed votes k v old new w =
-        ⊎_elim (λ q. subst (λ u. c.allowed (voters c n (put k (Some v) votes) u) ≡ true) q new)
+        ⊎_elim (λ q. subst (λ u. c.system.allowed (voters c n (put k (Some v) votes) u) ≡ true) q new)
         (λ ne. L.laws.subset _ (voters c n votes w) (other_voters votes k v w ne) (old w)) (same_or_other v w)
 
     -- where nobody has voted
@@ -118,9 +118,9 @@ module _ {V : Type 0} (c : Setting V) (L : Lawful c) where
   -- ECHO: calm, once the ECHO votes for v are no quorum
 
   record EchoOpen (n : ℕ) (v : V) (z : Cell V) : Type 0 where
-    no_ready : (w : V) → c.quorum (voters c n z.readies w) ≡ false
-    low_ready : z.copy.readied ≡ false → (w : V) → c.allowed (voters c n z.readies w) ≡ true
-    no_echo : z.copy.readied ≡ false → c.quorum (voters c n z.echoes v) ≡ false → (w : V) → c.quorum (voters c n z.echoes w) ≡ false
+    no_ready : (w : V) → c.system.quorum (voters c n z.readies w) ≡ false
+    low_ready : z.copy.readied ≡ false → (w : V) → c.system.allowed (voters c n z.readies w) ≡ true
+    no_echo : z.copy.readied ≡ false → c.system.quorum (voters c n z.echoes v) ≡ false → (w : V) → c.system.quorum (voters c n z.echoes w) ≡ false
 
   calm_count_echoes : (i j : ℕ) (v : V) (s : State V) → Else i j s → EchoOpen s.figures.stations v (s.cell i j) → CalmCells (count_echoes c i j v s)
   calm_count_echoes i j v s h k =
@@ -134,7 +134,7 @@ module _ {V : Type 0} (c : Setting V) (L : Lawful c) where
         no_echo = λ r. ⊎_elim (λ q. absurd (both_ways _ r (not-false _ q))) (λ q. k.no_echo r q) (and_cases _ _ e);
       }))
 
-  calm_echo : (i j k : ℕ) (v : V) (s : State V) → s.figures.stations ≡ c.size → CalmCells s → CalmCells (on_echo c i j k v s)
+  calm_echo : (i j k : ℕ) (v : V) (s : State V) → s.figures.stations ≡ c.system.stations → CalmCells s → CalmCells (on_echo c i j k v s)
   calm_echo i j k v s sized h =
       let z : Cell V = vote_echo k v (s.cell i j) in
       let t : State V = with_cell i j z s in
@@ -148,22 +148,22 @@ module _ {V : Type 0} (c : Setting V) (L : Lawful c) where
   -- READY: calm, once the READY votes for v are allowed and no quorum
 
   record ReadyOpen (n : ℕ) (v : V) (z : Cell V) : Type 0 where
-    no_ready : c.quorum (voters c n z.readies v) ≡ false → (w : V) → c.quorum (voters c n z.readies w) ≡ false
-    low_ready : z.copy.readied ≡ false → c.allowed (voters c n z.readies v) ≡ true → (w : V) → c.allowed (voters c n z.readies w) ≡ true
-    no_echo : z.copy.readied ≡ false → (w : V) → c.quorum (voters c n z.echoes w) ≡ false
+    no_ready : c.system.quorum (voters c n z.readies v) ≡ false → (w : V) → c.system.quorum (voters c n z.readies w) ≡ false
+    low_ready : z.copy.readied ≡ false → c.system.allowed (voters c n z.readies v) ≡ true → (w : V) → c.system.allowed (voters c n z.readies w) ≡ true
+    no_echo : z.copy.readied ≡ false → (w : V) → c.system.quorum (voters c n z.echoes w) ≡ false
 
   -- after joining, once they are no quorum
   record Joined (n : ℕ) (v : V) (z : Cell V) : Type 0 where
-    no_ready : c.quorum (voters c n z.readies v) ≡ false → (w : V) → c.quorum (voters c n z.readies w) ≡ false
-    low_ready : z.copy.readied ≡ false → (w : V) → c.allowed (voters c n z.readies w) ≡ true
-    no_echo : z.copy.readied ≡ false → (w : V) → c.quorum (voters c n z.echoes w) ≡ false
+    no_ready : c.system.quorum (voters c n z.readies v) ≡ false → (w : V) → c.system.quorum (voters c n z.readies w) ≡ false
+    low_ready : z.copy.readied ≡ false → (w : V) → c.system.allowed (voters c n z.readies w) ≡ true
+    no_echo : z.copy.readied ≡ false → (w : V) → c.system.quorum (voters c n z.echoes w) ≡ false
 
   record HalfCalm (i j : ℕ) (v : V) (s : State V) : Type 0 where
     others : Else i j s
     this : Joined s.figures.stations v (s.cell i j)
-    sized : s.figures.stations ≡ c.size
+    sized : s.figures.stations ≡ c.system.stations
 
-  half_join_readies : (i j : ℕ) (v : V) (s : State V) → s.figures.stations ≡ c.size → Else i j s → ReadyOpen s.figures.stations v (s.cell i j)
+  half_join_readies : (i j : ℕ) (v : V) (s : State V) → s.figures.stations ≡ c.system.stations → Else i j s → ReadyOpen s.figures.stations v (s.cell i j)
       → HalfCalm i j v (join_readies c i j v s)
   half_join_readies i j v s sized h k =
       let z : Cell V = mark_readied (s.cell i j) in
@@ -199,7 +199,7 @@ module _ {V : Type 0} (c : Setting V) (L : Lawful c) where
       (whole_put i j (fresh_cell v (suc (number s i j))) s t h.others (calm_fresh s.figures.stations h.sized v (suc (number s i j))) refl refl))
       (λ q. whole i j s h.others (record { no_ready = h.this.no_ready q; low_ready = h.this.low_ready; no_echo = h.this.no_echo }))
 
-  calm_ready : (i j k : ℕ) (v : V) (s : State V) → s.figures.stations ≡ c.size → CalmCells s → CalmCells (on_ready c i j k v s)
+  calm_ready : (i j k : ℕ) (v : V) (s : State V) → s.figures.stations ≡ c.system.stations → CalmCells s → CalmCells (on_ready c i j k v s)
   calm_ready i j k v s sized h =
       let z : Cell V = vote_ready k v (s.cell i j) in
       let t : State V = with_cell i j z s in
@@ -230,7 +230,7 @@ module _ {V : Type 0} (c : Setting V) (L : Lawful c) where
   cells_write_done i k x s Idle h = record { cells = h }
   cells_write_done i k x s (Writing y done) h =
       cond_both (eqb y x) _ _ CellsAfter
-      (λ _. cond_both (c.quorum (with_station done k)) _ _ CellsAfter (λ _. cells_stay s _ h refl refl) (λ _. cells_stay s _ h refl refl)) (λ _. record { cells = h })
+      (λ _. cond_both (c.system.quorum (with_station done k)) _ _ CellsAfter (λ _. cells_stay s _ h refl refl) (λ _. cells_stay s _ h refl refl)) (λ _. record { cells = h })
   cells_write_done i k x s (Querying j r reported) h = record { cells = h }
   cells_write_done i k x s (Catching j y v done) h = record { cells = h }
 
@@ -240,7 +240,7 @@ module _ {V : Type 0} (c : Setting V) (L : Lawful c) where
   cells_caught i k j x s (Querying asked r reported) h = record { cells = h }
   cells_caught i k j x s (Catching caught y v done) h =
       cond_both (eqb caught j && eqb y x) _ _ CellsAfter
-      (λ _. cond_both (c.quorum (with_station done k)) _ _ CellsAfter (λ _. cells_stay s _ h refl refl) (λ _. cells_stay s _ h refl refl)) (λ _. record { cells = h })
+      (λ _. cond_both (c.system.quorum (with_station done k)) _ _ CellsAfter (λ _. cells_stay s _ h refl refl) (λ _. cells_stay s _ h refl refl)) (λ _. record { cells = h })
 
   cells_state : (i k j r x : ℕ) (s : State V) (o : Stage V) → CalmCells s → CalmCells (state_at c i k j r x s o)
   cells_state i k j r x s Idle h = h
@@ -250,7 +250,7 @@ module _ {V : Type 0} (c : Setting V) (L : Lawful c) where
       cond_both _ (test_freshness c i j t) s CalmCells (λ _. calm_freshness i j t (t.station i).stage (cells_same s t h refl refl)) (λ _. h)
   cells_state i k j r x s (Catching caught y v done) h = h
 
-  cells_act : (s : State V) → s.figures.stations ≡ c.size → CalmCells s → (m : Message V) → CellsAfter (act c s m)
+  cells_act : (s : State V) → s.figures.stations ≡ c.system.stations → CalmCells s → (m : Message V) → CellsAfter (act c s m)
   cells_act s sized h (Init k i x v) = cells_old i k x s (on_init i k v s) h (calm_init i k v s h)
   cells_act s sized h (Echo k i j x v) = cells_old i j x s (on_echo c i j k v s) h (calm_echo i j k v s sized h)
   cells_act s sized h (Ready k i j x v) = cells_old i j x s (on_ready c i j k v s) h (calm_ready i j k v s sized h)
@@ -261,7 +261,7 @@ module _ {V : Type 0} (c : Setting V) (L : Lawful c) where
       record { cells = cond_both (leb x (number s i j)) _ _ CalmCells (λ _. cells_same s _ h refl refl) (λ _. cells_same s _ h refl refl) }
   cells_act s sized h (CatchUpDone k i j x) = cells_caught i k j x s (s.station i).stage h
 
-  pub cells_step : (s : State V) → s.figures.stations ≡ c.size → CalmCells s → (call : Call V) → CalmCells (step c s call).state
+  pub cells_step : (s : State V) → s.figures.stations ≡ c.system.stations → CalmCells s → (call : Call V) → CalmCells (step c s call).state
   cells_step s sized h call =
       after_call c s CalmCells
       (record {
@@ -275,4 +275,4 @@ module _ {V : Type 0} (c : Setting V) (L : Lawful c) where
       call
 
   pub cells_opened : (o : Opening V) → CalmCells (opened c o)
-  cells_opened o = record { each = λ a b. calm_fresh c.size refl o.value 0 }
+  cells_opened o = record { each = λ a b. calm_fresh c.system.stations refl o.value 0 }

@@ -24,9 +24,9 @@ module _ {V : Type 0} (c : Setting V) (L : Lawful c) where
   -- of one station: n stations, how far it is with each register, what was reported to it, and its stage
   abbrev pub CalmStage : ℕ → (ℕ → ℕ) → (ℕ → ℕ) → Stage V → Type 0
   CalmStage n numbers row Idle = Unit {0}
-  CalmStage n numbers row (Writing x done) = c.quorum done ≡ false
-  CalmStage n numbers row (Querying j r reported) = c.quorum (fresh_reports n (numbers j) reported row) ≡ false
-  CalmStage n numbers row (Catching j x v done) = c.quorum done ≡ false
+  CalmStage n numbers row (Writing x done) = c.system.quorum done ≡ false
+  CalmStage n numbers row (Querying j r reported) = c.system.quorum (fresh_reports n (numbers j) reported row) ≡ false
+  CalmStage n numbers row (Catching j x v done) = c.system.quorum done ≡ false
 
   abbrev CalmStation : State V → ℕ → Stage V → Type 0
   CalmStation s a o = CalmStage s.figures.stations (λ b. number s a b) (s.reports a) o
@@ -39,9 +39,9 @@ module _ {V : Type 0} (c : Setting V) (L : Lawful c) where
   calm_like n n' numbers numbers' row row' Idle e q p h = tt
   calm_like n n' numbers numbers' row row' (Writing x done) e q p h = h
   calm_like n n' numbers numbers' row row' (Querying j r reported) e q p h =
-      subst (λ m. c.quorum (fresh_reports m (numbers' j) reported row') ≡ false) (sym e)
-      (subst (λ y. c.quorum (fresh_reports n y reported row') ≡ false) (sym (q j))
-      (subst (λ (g : ℕ → ℕ). c.quorum (fresh_reports n (numbers j) reported g) ≡ false) (sym p) h))
+      subst (λ m. c.system.quorum (fresh_reports m (numbers' j) reported row') ≡ false) (sym e)
+      (subst (λ y. c.system.quorum (fresh_reports n y reported row') ≡ false) (sym (q j))
+      (subst (λ (g : ℕ → ℕ). c.system.quorum (fresh_reports n (numbers j) reported g) ≡ false) (sym p) h))
   calm_like n n' numbers numbers' row row' (Catching j x v done) e q p h = h
 
   -- what does not touch operations: figures, numbers, stations and reports stay
@@ -77,7 +77,7 @@ module _ {V : Type 0} (c : Setting V) (L : Lawful c) where
   stages_put : (s : State V) (i : ℕ) (o : Stage V) → CalmStages s → CalmStation s i o → (a : ℕ) → CalmStation s a (put i o (λ b. (s.station b).stage) a)
   stages_put s i o h new = put_all (λ a (x : Stage V). CalmStation s a x) i o (λ b. (s.station b).stage) h.each new
 
-  no_members : c.quorum 0 ≡ false
+  no_members : c.system.quorum 0 ≡ false
   no_members = no_quorum c L 0 has_none
 
   -- The freshness test
@@ -108,8 +108,8 @@ module _ {V : Type 0} (c : Setting V) (L : Lawful c) where
           })
           (λ t. whole (Querying asked r reported) e (not_fresh t))
         where
-          not_fresh : (eqb asked j && c.quorum (fresh_reports s.figures.stations (number s i j) reported (s.reports i))) ≡ false
-              → c.quorum (fresh_reports s.figures.stations (number s i asked) reported (s.reports i)) ≡ false
+          not_fresh : (eqb asked j && c.system.quorum (fresh_reports s.figures.stations (number s i j) reported (s.reports i))) ≡ false
+              → c.system.quorum (fresh_reports s.figures.stations (number s i asked) reported (s.reports i)) ≡ false
           not_fresh t =
               ⊎_elim
               (λ u. let q = eqb-true asked j u in ⊎_elim (λ w. absurd (both_ways _ w u)) (λ w. rw q w) (and_cases _ _ t))
@@ -134,7 +134,7 @@ module _ {V : Type 0} (c : Setting V) (L : Lawful c) where
       go a (Writing x done) k = inl k
       go a (Querying b r reported) k =
           ⊎_elim (λ w. inr (w.0, (r, reported, ap (λ z. Querying z r reported) w.1)))
-          (λ w. inl (subst (λ y. c.quorum (fresh_reports s.figures.stations y reported (s.reports a)) ≡ false) (sym w) k)) (row a b)
+          (λ w. inl (subst (λ y. c.system.quorum (fresh_reports s.figures.stations y reported (s.reports a)) ≡ false) (sym w) k)) (row a b)
       go a (Catching b x w done) k = inl k
 
   -- Publishing
@@ -183,7 +183,7 @@ module _ {V : Type 0} (c : Setting V) (L : Lawful c) where
   stages_write_done i k x s Idle h = record { stages = h }
   stages_write_done i k x s (Writing y done) h =
       cond_both (eqb y x) _ _ StagesAfter
-      (λ _. cond_both (c.quorum (with_station done k)) _ _ StagesAfter (λ _. record { stages = stages_turn s i Idle h tt })
+      (λ _. cond_both (c.system.quorum (with_station done k)) _ _ StagesAfter (λ _. record { stages = stages_turn s i Idle h tt })
       (λ q. record { stages = stages_turn s i (Writing x (with_station done k)) h q }))
       (λ _. record { stages = h })
   stages_write_done i k x s (Querying j r reported) h = record { stages = h }
@@ -195,7 +195,7 @@ module _ {V : Type 0} (c : Setting V) (L : Lawful c) where
   stages_caught i k j x s (Querying asked r reported) h = record { stages = h }
   stages_caught i k j x s (Catching caught y v done) h =
       cond_both (eqb caught j && eqb y x) _ _ StagesAfter
-      (λ _. cond_both (c.quorum (with_station done k)) _ _ StagesAfter (λ _. record { stages = stages_turn s i Idle h tt })
+      (λ _. cond_both (c.system.quorum (with_station done k)) _ _ StagesAfter (λ _. record { stages = stages_turn s i Idle h tt })
       (λ q. record { stages = stages_turn s i (Catching j x v (with_station done k)) h q }))
       (λ _. record { stages = h })
 
@@ -233,11 +233,11 @@ module _ {V : Type 0} (c : Setting V) (L : Lawful c) where
 
   -- Calls
 
-  none_fresh : (n x : ℕ) (row : ℕ → ℕ) → n ≤ 16 → c.quorum (fresh_reports n x 0 row) ≡ false
+  none_fresh : (n x : ℕ) (row : ℕ → ℕ) → n ≤ 16 → c.system.quorum (fresh_reports n x 0 row) ≡ false
   none_fresh n x row room =
       no_quorum c L _ (λ k. ⊎_elim (λ h. absurd (both_ways _ (has_none k) (fresh_said n room x 0 row k h).1)) (λ e. e) (cases_Bool (has (fresh_reports n x 0 row) k)))
 
-  pub stages_step : (s : State V) → s.figures.stations ≡ c.size → CalmStages s → (call : Call V) → CalmStages (step c s call).state
+  pub stages_step : (s : State V) → s.figures.stations ≡ c.system.stations → CalmStages s → (call : Call V) → CalmStages (step c s call).state
   stages_step s sized h call =
       after_call c s CalmStages
       (record {

@@ -23,7 +23,7 @@ use Rattle.machine.proofs.Frames.{Casting, Casts, casts_send_echo, casts_got_ech
 use Rattle.machine.proofs.History.{History, known, note, Recorded, Later, act_recorded}
 use Rattle.machine.proofs.Registers.{Sincere, SincereMessage, Settled, stage_is}
 
-module _ {V : Type 0} (c : Setting V) (L : Lawful c) (f : ℕ) (ok : c.allowed f ≡ true) (v₀ : V) where
+module _ {V : Type 0} (c : Setting V) (L : Lawful c) (f : ℕ) (ok : c.system.allowed f ≡ true) (v₀ : V) where
   -- a reading of register j by station i with read number r; `base` is how far each station was as it began
   module _ (i j r : ℕ) (base : ℕ → ℕ) where
     abbrev pub Fresh : ℕ → Type 0
@@ -54,7 +54,7 @@ module _ {V : Type 0} (c : Setting V) (L : Lawful c) (f : ℕ) (ok : c.allowed f
 
     -- the fresh reports are a quorum: it meets a settled quorum inside
     fresh_quorum : (n : ℕ) → n ≤ 16 → (reported : ℕ) (row : ℕ → ℕ) → ((k : ℕ) → has reported k ≡ true → In f k → base k ≤ row k)
-        → (x : ℕ) → c.quorum (fresh_reports n x reported row) ≡ true → Fresh x
+        → (x : ℕ) → c.system.quorum (fresh_reports n x reported row) ≡ true → Fresh x
     fresh_quorum n room reported row low x q y st =
         let m = share c L f ok st.0 (fresh_reports n x reported row) st.1 q in
         let w = fresh_said n room x reported row m.0 m.3 in
@@ -67,7 +67,7 @@ module _ {V : Type 0} (c : Setting V) (L : Lawful c) (f : ℕ) (ok : c.allowed f
     stage_up m n row (Catching b x v done) l u w = λ e q. w e (omega arith)
 
     module _ (inside : In f i) (s : State V) (h : History V) (R : Recorded c f v₀ s h) (S : Sincere c f v₀ s h) (A : ReadsFresh s)
-        (sized : s.figures.stations ≡ c.size) where
+        (sized : s.figures.stations ≡ c.system.stations) where
       low_later : (t : State V) (g : History V) → Later c f v₀ (known s h) (known t g) → (k : ℕ) → In f k → base k ≤ number t k j
       low_later t g w k e = omega (arith, A.low k e, w.numbers k j e)
 

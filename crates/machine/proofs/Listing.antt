@@ -101,7 +101,7 @@ module _ {V : Type 0} where
   legal_reads x v (write y w ∷ l) a = absurd a.0
   legal_reads x v (read i e y w ∷ l) a = let r = legal_reads x v l a.1 in ((ap₂ (λ m n. (m, n)) (sym a.0.0) (sym a.0.1), r.0), r.1)
 
-module _ {V : Type 0} (R : Run V) (L : Lawful R.setting) (ok : R.setting.allowed R.opening.faulty ≡ true) (B : Broadcast R) (j : ℕ) where
+module _ {V : Type 0} (R : Run V) (L : Lawful R.setting) (ok : R.setting.system.allowed R.opening.faulty ≡ true) (B : Broadcast R) (j : ℕ) where
   abbrev c : Setting V
   c = R.setting
 
@@ -115,13 +115,13 @@ module _ {V : Type 0} (R : Run V) (L : Lawful R.setting) (ok : R.setting.allowed
   far k = number (after R calls) k j
 
   -- a correct station that is as far as any
-  someone : (k : ℕ) × (k < c.size) × In faulty k
+  someone : (k : ℕ) × (k < c.system.stations) × In faulty k
   someone = let e = everyone c L in let m = share c L faulty ok e.0 e.0 e.1 e.1 in (m.0, m.1, m.4)
 
   Farthest : ℕ → Type 0
-  Farthest n = (m : ℕ) × (m < c.size) × In faulty m × ((k : ℕ) → k < n → In faulty k → far k ≤ far m)
+  Farthest n = (m : ℕ) × (m < c.system.stations) × In faulty m × ((k : ℕ) → k < n → In faulty k → far k ≤ far m)
 
-  farthest_of : (n : ℕ) → n ≤ c.size → Farthest n
+  farthest_of : (n : ℕ) → n ≤ c.system.stations → Farthest n
   unfolding Farthest
   farthest_of zero l = (someone.0, someone.1, someone.2, λ k u e. absurd (omega arith))
   farthest_of (suc n) l = more (farthest_of n (omega arith)) (cases_Bool (has faulty n))
@@ -137,8 +137,8 @@ module _ {V : Type 0} (R : Run V) (L : Lawful R.setting) (ok : R.setting.allowed
           (λ ge. (w.0, w.1, w.2, λ k u e. ⊎_elim (λ b. w.3 k b e) (λ q. subst (λ z. far z ≤ far w.0) (sym q) ge) (split k u)))
           (cases_lt (far w.0) (far n))
 
-  farthest : Farthest c.size
-  farthest = farthest_of c.size (omega arith)
+  farthest : Farthest c.system.stations
+  farthest = farthest_of c.system.stations (omega arith)
 
   leader : ℕ
   unfolding Farthest
@@ -148,7 +148,7 @@ module _ {V : Type 0} (R : Run V) (L : Lawful R.setting) (ok : R.setting.allowed
   unfolding leader Farthest
   leader_in = farthest.2
 
-  leader_below : leader < c.size
+  leader_below : leader < c.system.stations
   unfolding leader Farthest
   leader_below = farthest.1
 

@@ -108,7 +108,7 @@ module _ {V : Type 0} (c : Setting V) (f : ℕ) where
         reads = λ j. y.reads j ∙ x.reads j;
       }
 
-module _ {V : Type 0} (c : Setting V) (L : Lawful c) (f : ℕ) (ok : c.allowed f ≡ true) (v₀ : V) where
+module _ {V : Type 0} (c : Setting V) (L : Lawful c) (f : ℕ) (ok : c.system.allowed f ≡ true) (v₀ : V) where
   act_figures : (a : Act V) (s : State V) → Guard c f a s → (apply c f a s).figures ≡ s.figures
   act_figures (Elsewhere t) s gd = gd.figures_same
   act_figures (Drop p m) s gd = refl
@@ -152,7 +152,7 @@ module _ {V : Type 0} (c : Setting V) (L : Lawful c) (f : ℕ) (ok : c.allowed f
       let r = act_recorded c f v₀ s h H.recorded a gd in (
         r.0,
         record {
-          fits = subst (λ (z : Figures). (z.stations ≡ c.size) × Inside z.faulty f) (sym (act_figures a s gd)) H.fits;
+          fits = subst (λ (z : Figures). (z.stations ≡ c.system.stations) × Inside z.faulty f) (sym (act_figures a s gd)) H.fits;
           recorded = r.1;
           truthful = (act_truthful c L f ok v₀ s h H.recorded H.truthful H.fits.0 a gd).1;
           arrivals = act_arrivals c L f ok v₀ s h H.truthful H.arrivals H.fits.0 a gd;
@@ -205,7 +205,7 @@ taken_zero : {V : Type 0} (v : V) (x : ℕ) → x ≤ 0 → cond (eqb x 0) (Some
 taken_zero v x l = grind (arith, nat_tests)
 
 -- as the bench opens
-module _ {V : Type 0} (c : Setting V) (L : Lawful c) (o : Opening V) (ok : c.allowed o.faulty ≡ true) where
+module _ {V : Type 0} (c : Setting V) (L : Lawful c) (o : Opening V) (ok : c.system.allowed o.faulty ≡ true) where
   pub holds_opened : Holds c L o.faulty ok o.value (opened c o) (no_history o.value)
   unfolding no_history
   holds_opened =

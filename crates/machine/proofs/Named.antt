@@ -149,7 +149,7 @@ module _ {V : Type 0} (c : Setting V) where
   write_done s i k x (Writing y done) e l h =
       let n : ℕ = s.figures.stations in
       cond_both (eqb y x) _ _ NamedBy
-      (λ _. cond_both (c.quorum (with_station done k)) _ _ NamedBy
+      (λ _. cond_both (c.system.quorum (with_station done k)) _ _ NamedBy
       (λ _. staged s i Idle _ tt h)
       (λ _. staged s i (Writing x (with_station done k)) _ (one_more n done k l (subst (NamesStage n) e (h.stages i))) h)) (λ _. by s h)
   write_done s i k x (Querying j r reported) e l h = by s h
@@ -162,7 +162,7 @@ module _ {V : Type 0} (c : Setting V) where
   caught s i k j x (Catching was y v done) e l lj h =
       let n : ℕ = s.figures.stations in
       cond_both (eqb was j && eqb y x) _ _ NamedBy
-      (λ _. cond_both (c.quorum (with_station done k)) _ _ NamedBy
+      (λ _. cond_both (c.system.quorum (with_station done k)) _ _ NamedBy
       (λ _. staged s i Idle _ tt h)
       (λ _. staged s i (Catching j x v (with_station done k)) _ (lj, one_more n done k l (subst (NamesStage n) e (h.stages i)).1) h)) (λ _. by s h)
 

@@ -265,7 +265,7 @@ module _ {V : Type 0} where
   own_write_done c i k x s Idle = own_none i s
   own_write_done c i k x s (Writing y done) =
       cond_both (eqb y x) _ _ (Own i s)
-      (λ _. cond_both (c.quorum (with_station done k)) _ _ (Own i s) (λ _. own_stage i s Idle (WriteEnded i x) refl) (λ _. own_stage i s (Writing x (with_station done k)) Done tt))
+      (λ _. cond_both (c.system.quorum (with_station done k)) _ _ (Own i s) (λ _. own_stage i s Idle (WriteEnded i x) refl) (λ _. own_stage i s (Writing x (with_station done k)) Done tt))
       (λ _. own_none i s)
   own_write_done c i k x s (Querying j r reported) = own_none i s
   own_write_done c i k x s (Catching j y v done) = own_none i s
@@ -276,7 +276,7 @@ module _ {V : Type 0} where
   own_caught c i k j x s (Querying asked r reported) = own_none i s
   own_caught c i k j x s (Catching caught y v done) =
       cond_both (eqb caught j && eqb y x) _ _ (Own i s)
-      (λ _. cond_both (c.quorum (with_station done k)) _ _ (Own i s) (λ _. own_stage i s Idle (ReadEnded i j x v) refl) (λ _. own_stage i s (Catching j x v (with_station done k)) Done tt))
+      (λ _. cond_both (c.system.quorum (with_station done k)) _ _ (Own i s) (λ _. own_stage i s Idle (ReadEnded i j x v) refl) (λ _. own_stage i s (Catching j x v (with_station done k)) Done tt))
       (λ _. own_none i s)
 
   quiet : (i : ℕ) (s t : State V) → Only i s t → Own i s (leaves t)

@@ -33,7 +33,7 @@ module _ {V : Type 0} (c : Setting V) (L : Lawful c) (f : ℕ) (v₀ : V) where
       ⊎ (((s.held k i j ≡ x) × (number s k j < x)) ⊎ (Mem (CatchUpDone k i j x) s.pool ⊎ (has done k ≡ true)))
 
   abbrev pub AllAwait : State V → ℕ → Stage V → Type 0
-  AllAwait s i o = (k : ℕ) → In f k → k < c.size → Awaits s i k o
+  AllAwait s i o = (k : ℕ) → In f k → k < c.system.stations → Awaits s i k o
 
   -- a number that is asked for register j is not above the one that is being caught
   abbrev AtMost : ℕ → ℕ → Stage V → Type 0
@@ -56,7 +56,7 @@ module _ {V : Type 0} (c : Setting V) (L : Lawful c) (f : ℕ) (v₀ : V) where
   stages s i = (s.station i).stage
 
   pub record Pending (s : State V) : Type 0 where
-    pub awaits : (i : ℕ) → In f i → i < c.size → AllAwait s i (s.station i).stage
+    pub awaits : (i : ℕ) → In f i → i < c.system.stations → AllAwait s i (s.station i).stage
     pub asked : All (Asked (stages s)) s.pool
     pub held_low : (k i j : ℕ) → In f k → In f i → s.held k i j ≤ number s i j
     pub held_asked : (k i j : ℕ) → In f k → In f i → AtMost j (s.held k i j) (s.station i).stage
@@ -142,7 +142,7 @@ module _ {V : Type 0} (c : Setting V) (L : Lawful c) (f : ℕ) (v₀ : V) where
   asked_like g g' e (CatchUp i k j x) a = λ q. subst (AtMost j x) (sym (e i q)) (a q)
   asked_like g g' e (CatchUpDone k i j x) a = tt
 
-  module _ (s : State V) (h : History V) (S : Sincere c f v₀ s h) (P : Pending s) (sized : s.figures.stations ≡ c.size) where
+  module _ (s : State V) (h : History V) (S : Sincere c f v₀ s h) (P : Pending s) (sized : s.figures.stations ≡ c.system.stations) where
     -- some message that concerns nobody, where none leaves
     nobody : Message V
     nobody = Init 0 0 0 v₀
@@ -157,7 +157,7 @@ module _ {V : Type 0} (c : Setting V) (L : Lawful c) (f : ℕ) (v₀ : V) where
 
     -- no stage of a station inside changes
     same_stages : (t : State V) (m₀ : Message V) → Leaves s t m₀ → ((i : ℕ) → In f i → t.station i ≡ s.station i)
-        → ((i k : ℕ) → In f i → i < c.size → In f k → k < c.size → Concerns i k (s.station i).stage m₀ → Awaits t i k (s.station i).stage)
+        → ((i k : ℕ) → In f i → i < c.system.stations → In f k → k < c.system.stations → Concerns i k (s.station i).stage m₀ → Awaits t i k (s.station i).stage)
         → All (Asked (stages s)) t.pool → Pending t
     same_stages t m₀ w es g po =
         record {
@@ -171,13 +171,13 @@ module _ {V : Type 0} (c : Setting V) (L : Lawful c) (f : ℕ) (v₀ : V) where
 
     -- one stage changes
     new_stage : (a : ℕ) (o : Stage V) (t : State V) (m₀ : Message V) → Leaves s t m₀ → ((b : ℕ) → (t.station b).stage ≡ put a o (stages s) b)
-        → ((i k : ℕ) → (i ≡ a → ⊥) → In f i → i < c.size → In f k → k < c.size → Concerns i k (s.station i).stage m₀ → Awaits t i k (s.station i).stage)
-        → (In f a → a < c.size → AllAwait t a o) → (In f a → (j x : ℕ) → x ≤ number s a j → AtMost j x (s.station a).stage → AtMost j x o)
+        → ((i k : ℕ) → (i ≡ a → ⊥) → In f i → i < c.system.stations → In f k → k < c.system.stations → Concerns i k (s.station i).stage m₀ → Awaits t i k (s.station i).stage)
+        → (In f a → a < c.system.stations → AllAwait t a o) → (In f a → (j x : ℕ) → x ≤ number s a j → AtMost j x (s.station a).stage → AtMost j x o)
         → All (Asked (put a o (stages s))) t.pool → Pending t
     new_stage a o t m₀ w es g new low po =
         record {
           awaits = λ i e l k q u. subst (Awaits t i k) (sym (es i))
-              (put_else (λ b z. In f b → b < c.size → Awaits t b k z) a o (stages s)
+              (put_else (λ b z. In f b → b < c.system.stations → Awaits t b k z) a o (stages s)
               (λ b ne e l. awaits_on s t m₀ w b k e q (s.station b).stage (g b k ne e l q u) (P.awaits b e l k q u)) (λ e l. new e l k q u) i e l);
           asked = All-weaker (Asked (put a o (stages s))) (Asked (stages t)) (asked_like (put a o (stages s)) (stages t) (λ i e. es i)) t.pool po;
           held_low = λ k i j e q. omega (arith, w.helds k i j e, w.numbers i j q, P.held_low k i j e q);
@@ -306,7 +306,7 @@ module _ {V : Type 0} (c : Setting V) (L : Lawful c) (f : ℕ) (v₀ : V) where
     -- an answer of station k counts: k joins those that answered
     counts : (a : ℕ) (o o' : Stage V) (t : State V) (p : ℕ) (m₀ : Message V) → slice_get s.pool p ≡ Some m₀ → t.pool ≡ removed s.pool p → t.cell ≡ s.cell → t.held ≡ s.held
         → ((b : ℕ) → (t.station b).stage ≡ put a o' (stages s) b) → (s.station a).stage ≡ o → Answering m₀ → receiver m₀ ≡ a
-        → ((k : ℕ) → Awaits s a k o → Awaits s a k o') → ((k : ℕ) → In f k → k < c.size → Concerns a k o' m₀ → Awaits t a k o')
+        → ((k : ℕ) → Awaits s a k o → Awaits s a k o') → ((k : ℕ) → In f k → k < c.system.stations → Concerns a k o' m₀ → Awaits t a k o')
         → ((j x : ℕ) → AtMost j x o → AtMost j x o') → Pending t
     counts a o o' t p m₀ at ep ec eh es so answer to up new low =
         let w : Leaves s t m₀ = leaves t p m₀ [] at (ep ∙ sym (append-nil (removed s.pool p))) ec eh in
@@ -316,7 +316,7 @@ module _ {V : Type 0} (c : Setting V) (L : Lawful c) (f : ℕ) (v₀ : V) where
         (λ e l k q u. awaits_on s t m₀ w a k e q o' (new k q u) (up k (subst (Awaits s a k) so (P.awaits a e l k q u))))
         keep (subst (All (Asked (put a o' (stages s)))) (sym ep) (turned a o' (removed s.pool p) keep (sincere_left p) (left p)))
 
-    room : (k : ℕ) → k < c.size → k < 16
+    room : (k : ℕ) → k < c.system.stations → k < 16
     room k l = omega (arith, l, L.laws.sized)
 
     by_got_report : (p i k j r x reported : ℕ) → Guard c f (GotReport p i k j r x reported) s → Pending (apply c f (GotReport p i k j r x reported) s)
@@ -508,13 +508,13 @@ module _ {V : Type 0} (c : Setting V) (L : Lawful c) (f : ℕ) (v₀ : V) where
             (λ z. let p = and_parts _ _ z in let q = and_parts _ _ p.1 in absurd (ne (eqb-true k a p.0, eqb-true j b q.0) (sym w ∙ eqb-true (s.held k i j) x q.1))) (λ _. w)
 
         -- station i awaited just this number of station a
-        answered : (i : ℕ) → i < c.size → s.held a i b ≡ x → Mem (CatchUpDone a i b x) t.pool
+        answered : (i : ℕ) → i < c.system.stations → s.held a i b ≡ x → Mem (CatchUpDone a i b x) t.pool
         answered i l w =
             mem_right (CatchUpDone a i b x) s.pool _
             (inr (mem_map (λ k. CatchUpDone a k b x) i _ (mem_kept (λ k. eqb (s.held a k b) x) i (range_with_len 0 s.figures.stations) (eq-eqb (s.held a i b) x w)
             (mem_counting 0 s.figures.stations i (omega arith) (omega (arith, l, sized))))))
 
-        on : (i k : ℕ) → In f i → In f k → i < c.size → (o : Stage V) → Awaits s i k o → Awaits t i k o
+        on : (i k : ℕ) → In f i → In f k → i < c.system.stations → (o : Stage V) → Awaits s i k o → Awaits t i k o
         on i k e q l Idle w = tt
         on i k e q l (Writing y done) w = λ u.
             ⊎_elim (λ old. ⊎_elim (λ m. inl (stays (WriteDone k i y) m)) inr (w old))

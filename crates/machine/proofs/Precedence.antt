@@ -22,7 +22,7 @@ use Rattle.machine.proofs.Freshness.{ReadsFresh, act_fresh, begins_fresh, ends_f
 use Rattle.machine.proofs.Moments.{Goes_on, Holds, chain_fresh, chain_figures}
 use Rattle.machine.proofs.Along.{climb, made, past_end, history_at, holds_at, numbers_rise, Along, goes, begins_writing, begins_reading, ends_writing, ends_reading, along, rank_rises, takes_below, read_end, write_end}
 
-module _ {V : Type 0} (R : Run V) (L : Lawful R.setting) (ok : R.setting.allowed R.opening.faulty ≡ true) where
+module _ {V : Type 0} (R : Run V) (L : Lawful R.setting) (ok : R.setting.system.allowed R.opening.faulty ≡ true) where
   abbrev c : Setting V
   c = R.setting
 
@@ -61,10 +61,10 @@ module _ {V : Type 0} (R : Run V) (L : Lawful R.setting) (ok : R.setting.allowed
   pub inside : (i : ℕ) → Correct R i → In faulty i
   inside i w = ap (λ (z : Figures). has z.faulty i) (sym figures_end) ∙ w.sound
 
-  pub below : (i : ℕ) → Correct R i → i < c.size
+  pub below : (i : ℕ) → Correct R i → i < c.system.stations
   below i w = omega (arith, w.station, ap (λ (z : Figures). z.stations) figures_end)
 
-  pub correct : (i : ℕ) → In faulty i → i < c.size → Correct R i
+  pub correct : (i : ℕ) → In faulty i → i < c.system.stations → Correct R i
   correct i e l =
       record {
         station = omega (arith, l, ap (λ (z : Figures). z.stations) figures_end);
@@ -183,7 +183,7 @@ module _ {V : Type 0} (R : Run V) (L : Lawful R.setting) (ok : R.setting.allowed
       (subst (SincereStage c faulty opening (known (after R e) (history_at R L ok e)) i ((after R e).reports i)) g.3.1 ((holds_at R L ok e).sincere.stages i h)).0
 
   -- someone inside is as far as what is settled
-  far_one : (p j x : ℕ) → Far p j x → (k : ℕ) × (k < c.size) × In faulty k × (x ≤ number (after R p) k j)
+  far_one : (p j x : ℕ) → Far p j x → (k : ℕ) × (k < c.system.stations) × In faulty k × (x ≤ number (after R p) k j)
   far_one p j x st = let m = share c L faulty ok st.0 st.0 st.1 st.1 in (m.0, m.1, m.4, st.2 m.0 m.1 m.2 m.4)
 
   module _ (B : Broadcast R) where

@@ -45,53 +45,53 @@ module _ {V : Type 0} (c : Setting V) (L : Lawful c) where
   voters-among n room votes v s h = (voter_said n room votes v s h).0
 
   -- a quorum has members, and what lies inside no quorum is none
-  pub no_quorum : (a : ℕ) → ((s : ℕ) → has a s ≡ false) → c.quorum a ≡ false
+  pub no_quorum : (a : ℕ) → ((s : ℕ) → has a s ≡ false) → c.system.quorum a ≡ false
   no_quorum a h =
       ⊎_elim
-      (λ q. absurd (both_ways _ (quorum_not_allowed c.size c.allowed c.quorum L.laws a q)
+      (λ q. absurd (both_ways _ (quorum_not_allowed c.system L.laws a q)
       (L.laws.subset a 0 (λ s m. absurd (both_ways _ (h s) m)) L.laws.empty)))
-      (λ e. e) (cases_Bool (c.quorum a))
+      (λ e. e) (cases_Bool (c.system.quorum a))
 
-  pub quorum_less : (a b : ℕ) → Inside a b → Among c.size b → c.quorum b ≡ false → c.quorum a ≡ false
-  quorum_less a b h m e = ⊎_elim (λ q. absurd (both_ways _ e (L.laws.superset a b h m q))) (λ q. q) (cases_Bool (c.quorum a))
+  pub quorum_less : (a b : ℕ) → Inside a b → Among c.system.stations b → c.system.quorum b ≡ false → c.system.quorum a ≡ false
+  quorum_less a b h m e = ⊎_elim (λ q. absurd (both_ways _ e (L.laws.superset a b h m q))) (λ q. q) (cases_Bool (c.system.quorum a))
 
-  pub quorum_is_not_allowed : (a : ℕ) → c.quorum a ≡ true → c.allowed a ≡ false
-  quorum_is_not_allowed a q = quorum_not_allowed c.size c.allowed c.quorum L.laws a q
+  pub quorum_is_not_allowed : (a : ℕ) → c.system.quorum a ≡ true → c.system.allowed a ≡ false
+  quorum_is_not_allowed a q = quorum_not_allowed c.system L.laws a q
 
   -- a quorum that any table has: all stations
-  pub everyone : (q : ℕ) × (c.quorum q ≡ true)
-  everyone = (missing c.size 0, L.laws.outside 0 L.laws.empty)
+  pub everyone : (q : ℕ) × (c.system.quorum q ≡ true)
+  everyone = (missing c.system.stations 0, L.laws.outside 0 L.laws.empty)
 
-  module _ (f : ℕ) (ok : c.allowed f ≡ true) where
+  module _ (f : ℕ) (ok : c.system.allowed f ≡ true) where
     -- two quorums share a station inside
-    pub share : (a b : ℕ) → c.quorum a ≡ true → c.quorum b ≡ true
-        → (s : ℕ) × (s < c.size) × (has a s ≡ true) × (has b s ≡ true) × (has f s ≡ false)
-    share a b p q = quorums_share_outside c.size c.allowed c.quorum L.laws a b f p q ok
+    pub share : (a b : ℕ) → c.system.quorum a ≡ true → c.system.quorum b ≡ true
+        → (s : ℕ) × (s < c.system.stations) × (has a s ≡ true) × (has b s ≡ true) × (has f s ≡ false)
+    share a b p q = quorums_share_outside c.system L.laws a b f p q ok
 
     -- a set that is not allowed has a member inside
-    pub member_inside : (a : ℕ) → Among c.size a → c.allowed a ≡ false → (s : ℕ) × (s < c.size) × (has a s ≡ true) × (has f s ≡ false)
+    pub member_inside : (a : ℕ) → Among c.system.stations a → c.system.allowed a ≡ false → (s : ℕ) × (s < c.system.stations) × (has a s ≡ true) × (has f s ≡ false)
     member_inside a mine e =
         ⊎_elim
         (λ w. let h = and_parts (has a w.0) (not (has f w.0)) w.2 in (w.0, w.1, h.0, not-true _ h.1))
         (λ none. absurd (both_ways _ e (L.laws.subset a f (λ s m. ⊎_elim (λ t. t) (λ out. absurd (both_ways _ (none s (mine s m)) (and_from _ _ m (not_from_false _ out)))) (cases_Bool (has f s))) ok)))
-        (search_below c.size (λ s. has a s && not (has f s)))
+        (search_below c.system.stations (λ s. has a s && not (has f s)))
 
     -- a set of stations with all that are inside is a quorum
-    pub all_inside : (a : ℕ) → Among c.size a → ((s : ℕ) → s < c.size → has f s ≡ false → has a s ≡ true) → c.quorum a ≡ true
-    all_inside a mine h = including_outside_quorum c.size c.allowed c.quorum L.laws f a ok mine h
+    pub all_inside : (a : ℕ) → Among c.system.stations a → ((s : ℕ) → s < c.system.stations → has f s ≡ false → has a s ≡ true) → c.system.quorum a ≡ true
+    all_inside a mine h = including_outside_quorum c.system L.laws f a ok mine h
 
     -- the part inside of a quorum is not allowed, nor what includes it
-    pub part_inside : (q a : ℕ) → c.quorum q ≡ true → ((s : ℕ) → s < c.size → has q s ≡ true → has f s ≡ false → has a s ≡ true) → c.allowed a ≡ false
+    pub part_inside : (q a : ℕ) → c.system.quorum q ≡ true → ((s : ℕ) → s < c.system.stations → has q s ≡ true → has f s ≡ false → has a s ≡ true) → c.system.allowed a ≡ false
     part_inside q a e h =
         ⊎_elim
-        (λ t. absurd (both_ways _ (L.laws.overlap q (missing c.size f) e (L.laws.outside f ok)) (L.laws.subset (common q (missing c.size f)) a inside t)))
-        (λ t. t) (cases_Bool (c.allowed a))
+        (λ t. absurd (both_ways _ (L.laws.overlap q (missing c.system.stations f) e (L.laws.outside f ok)) (L.laws.subset (common q (missing c.system.stations f)) a inside t)))
+        (λ t. t) (cases_Bool (c.system.allowed a))
       where
-        inside : Inside (common q (missing c.size f)) a
+        inside : Inside (common q (missing c.system.stations f)) a
         inside s m =
-            let w = and_parts (has q s) (has (missing c.size f) s) (sym (has-common q (missing c.size f) s) ∙ m) in
-            let l = missing-among c.size f L.laws.sized s w.1 in
-            h s l w.0 (not-true _ (sym (has_missing_below c.size f s L.laws.sized l) ∙ w.1))
+            let w = and_parts (has q s) (has (missing c.system.stations f) s) (sym (has-common q (missing c.system.stations f) s) ∙ m) in
+            let l = missing-among c.system.stations f L.laws.sized s w.1 in
+            h s l w.0 (not-true _ (sym (has_missing_below c.system.stations f s L.laws.sized l) ∙ w.1))
 
 -- the reports that are fresh
 pub fresh_said : (n : ℕ) → n ≤ 16 → (x reported : ℕ) (row : ℕ → ℕ) (k : ℕ) → has (fresh_reports n x reported row) k ≡ true

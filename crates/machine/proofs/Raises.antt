@@ -89,7 +89,7 @@ module _ {V : Type 0} where
   raised_write_done c i k x s Idle = by s s (raised_none s)
   raised_write_done c i k x s (Writing y done) =
       cond_both (eqb y x) _ _ (RaisedBy s)
-      (λ _. cond_both (c.quorum (with_station done k)) _ _ (RaisedBy s) (λ _. level_by s _ (λ a b. refl)) (λ _. level_by s _ (λ a b. refl)))
+      (λ _. cond_both (c.system.quorum (with_station done k)) _ _ (RaisedBy s) (λ _. level_by s _ (λ a b. refl)) (λ _. level_by s _ (λ a b. refl)))
       (λ _. by s s (raised_none s))
   raised_write_done c i k x s (Querying j r reported) = by s s (raised_none s)
   raised_write_done c i k x s (Catching j y v done) = by s s (raised_none s)
@@ -100,7 +100,7 @@ module _ {V : Type 0} where
   raised_caught c i k j x s (Querying asked r reported) = by s s (raised_none s)
   raised_caught c i k j x s (Catching caught y v done) =
       cond_both (eqb caught j && eqb y x) _ _ (RaisedBy s)
-      (λ _. cond_both (c.quorum (with_station done k)) _ _ (RaisedBy s) (λ _. level_by s _ (λ a b. refl)) (λ _. level_by s _ (λ a b. refl)))
+      (λ _. cond_both (c.system.quorum (with_station done k)) _ _ (RaisedBy s) (λ _. level_by s _ (λ a b. refl)) (λ _. level_by s _ (λ a b. refl)))
       (λ _. by s s (raised_none s))
 
   raised_state : (c : Setting V) (i k j r x : ℕ) (s : State V) (o : Stage V) → Level s (state_at c i k j r x s o)

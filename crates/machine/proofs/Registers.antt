@@ -257,7 +257,7 @@ module _ {V : Type 0} (c : Setting V) (f : ℕ) (v₀ : V) where
 
   -- Settled: some quorum's members inside are all at least that far. Once so, always so, since numbers never fall.
   abbrev pub Settled : (ℕ → ℕ) → ℕ → Type 0
-  Settled far x = (q : ℕ) × (c.quorum q ≡ true) × ((k : ℕ) → k < c.size → has q k ≡ true → In f k → x ≤ far k)
+  Settled far x = (q : ℕ) × (c.system.quorum q ≡ true) × ((k : ℕ) → k < c.system.stations → has q k ≡ true → In f k → x ≤ far k)
 
   pub settled_later : (far far' : ℕ → ℕ) (x : ℕ) → ((k : ℕ) → In f k → far k ≤ far' k) → Settled far x → Settled far' x
   settled_later far far' x le a = (a.0, a.1, λ k l m e. omega (arith, a.2 k l m e, le k e))

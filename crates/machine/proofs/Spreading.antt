@@ -15,7 +15,7 @@ use Rattle.machine.proofs.Voices.{Backed, one_backs, one_ready}
 use Rattle.machine.proofs.Moments.{Holds}
 use Rattle.machine.proofs.CalmCells.{CalmCell}
 
-module _ {V : Type 0} (c : Setting V) (L : Lawful c) (f : ℕ) (ok : c.allowed f ≡ true) (v₀ : V) where
+module _ {V : Type 0} (c : Setting V) (L : Lawful c) (f : ℕ) (ok : c.system.allowed f ≡ true) (v₀ : V) where
   module _ (s : State V) (h : History V) (H : Holds c L f ok v₀ s h)
       (calm : (i j : ℕ) → CalmCell c L s.figures.stations (s.cell i j))
       (rest : (m : Message V) → Mem m s.pool → In f (sender m) → In f (receiver m) → ahead s m ≡ true) where
@@ -26,32 +26,32 @@ module _ {V : Type 0} (c : Setting V) (L : Lawful c) (f : ℕ) (ok : c.allowed f
     unfolding n
     room = omega (arith, L.laws.sized, H.fits.0)
 
-    among : (votes : ℕ → Option V) (v : V) → Among c.size (voters c n votes v)
+    among : (votes : ℕ → Option V) (v : V) → Among c.system.stations (voters c n votes v)
     unfolding n
     among votes v k m = omega (arith, voters-among c L n room votes v k m, H.fits.0)
 
-    counted : (votes : ℕ → Option V) (v : V) (k : ℕ) → k < c.size → votes k ≡ Some v → has (voters c n votes v) k ≡ true
+    counted : (votes : ℕ → Option V) (v : V) (k : ℕ) → k < c.system.stations → votes k ≡ Some v → has (voters c n votes v) k ≡ true
     unfolding n
     counted votes v k l e = votes_count c L n room votes v k (omega (arith, l, H.fits.0)) e
 
     -- at rest a message about the publication at work has had its effect
-    heard_init : (k i : ℕ) (v : V) → In f k → In f i → i < c.size → h.published k (suc (number s i k)) ≡ Some v → (s.cell i k).copy.echoed ≡ true
+    heard_init : (k i : ℕ) (v : V) → In f k → In f i → i < c.system.stations → h.published k (suc (number s i k)) ≡ Some v → (s.cell i k).copy.echoed ≡ true
     heard_init k i v e q l p =
         ⊎_elim (λ m. absurd (let z = ltb-true _ _ (rest (Init k i (suc (number s i k)) v) m e q) in omega arith))
         (λ d. ⊎_elim (λ u. absurd (omega arith)) (λ u. u.1) d) (H.arrivals.inits k i (suc (number s i k)) v e q l p)
 
-    heard_echo : (k i j : ℕ) (v : V) → In f k → In f i → i < c.size → h.echoed k j (suc (number s i j)) ≡ Some v → (s.cell i j).echoes k ≡ Some v
+    heard_echo : (k i j : ℕ) (v : V) → In f k → In f i → i < c.system.stations → h.echoed k j (suc (number s i j)) ≡ Some v → (s.cell i j).echoes k ≡ Some v
     heard_echo k i j v e q l p =
         ⊎_elim (λ m. absurd (let z = ltb-true _ _ (rest (Echo k i j (suc (number s i j)) v) m e q) in omega arith))
         (λ d. ⊎_elim (λ u. absurd (omega arith)) (λ u. u.1) d) (H.arrivals.echoes k i j (suc (number s i j)) v e q l p)
 
-    heard_ready : (k i j : ℕ) (v : V) → In f k → In f i → i < c.size → h.readied k j (suc (number s i j)) ≡ Some v → (s.cell i j).readies k ≡ Some v
+    heard_ready : (k i j : ℕ) (v : V) → In f k → In f i → i < c.system.stations → h.readied k j (suc (number s i j)) ≡ Some v → (s.cell i j).readies k ≡ Some v
     heard_ready k i j v e q l p =
         ⊎_elim (λ m. absurd (let z = ltb-true _ _ (rest (Ready k i j (suc (number s i j)) v) m e q) in omega arith))
         (λ d. ⊎_elim (λ u. absurd (omega arith)) (λ u. u.1) d) (H.arrivals.readies k i j (suc (number s i j)) v e q l p)
 
     -- not all stations inside have said READY of the publication that one still works on
-    not_all_ready : (i j : ℕ) (v : V) → In f i → i < c.size → ((a : ℕ) → a < c.size → In f a → h.readied a j (suc (number s i j)) ≡ Some v) → ⊥
+    not_all_ready : (i j : ℕ) (v : V) → In f i → i < c.system.stations → ((a : ℕ) → a < c.system.stations → In f a → h.readied a j (suc (number s i j)) ≡ Some v) → ⊥
     unfolding n
     not_all_ready i j v e l all =
         both_ways _ ((calm i j).no_ready v)
@@ -59,7 +59,7 @@ module _ {V : Type 0} (c : Setting V) (L : Lawful c) (f : ℕ) (ok : c.allowed f
         (λ a u q. counted (s.cell i j).readies v a u (heard_ready a i j v q e l (all a u q))))
 
     -- a station that works on a publication that a quorum's members inside said READY of has said it too
-    says_ready : (a j : ℕ) (v : V) → In f a → a < c.size → Backed c L f ok v₀ (λ k. h.readied k j (suc (number s a j))) v → h.readied a j (suc (number s a j)) ≡ Some v
+    says_ready : (a j : ℕ) (v : V) → In f a → a < c.system.stations → Backed c L f ok v₀ (λ k. h.readied k j (suc (number s a j))) v → h.readied a j (suc (number s a j)) ≡ Some v
     unfolding n
     says_ready a j v e l b =
         let high = part_inside c L f ok b.0 (voters c n (s.cell a j).readies v) b.1
@@ -71,7 +71,7 @@ module _ {V : Type 0} (c : Setting V) (L : Lawful c) (f : ℕ) (ok : c.allowed f
         r.1 ∙ ap (λ z. Some z) (one_ready c L f ok v₀ s h H.recorded H.truthful a k.0 j (suc (number s a j)) r.0 v e k.2 r.1 k.3)
 
     -- none is farther than the least
-    no_farther : (i k j : ℕ) → In f i → i < c.size → In f k → k < c.size → ((a : ℕ) → a < c.size → In f a → number s i j ≤ number s a j) → number s k j ≤ number s i j
+    no_farther : (i k j : ℕ) → In f i → i < c.system.stations → In f k → k < c.system.stations → ((a : ℕ) → a < c.system.stations → In f a → number s i j ≤ number s a j) → number s k j ≤ number s i j
     no_farther i k j e l q u low = ⊎_elim (λ lt. absurd (bad lt)) (λ ge. ge) (cases_lt (number s i j) (number s k j))
       where
         bad : number s i j < number s k j → ⊥
@@ -113,16 +113,16 @@ module _ {V : Type 0} (c : Setting V) (L : Lawful c) (f : ℕ) (ok : c.allowed f
             (cases_lt (number s m j) (number s w.0 j))
 
     -- totality at rest
-    pub same_numbers : (i k j : ℕ) → In f i → i < c.size → In f k → k < c.size → number s i j ≡ number s k j
+    pub same_numbers : (i k j : ℕ) → In f i → i < c.system.stations → In f k → k < c.system.stations → number s i j ≡ number s k j
     unfolding Least
     same_numbers i k j e l q u =
         ⊎_elim (λ none. absurd (none i l e))
         (λ w. let a = no_farther w.0 i j w.2 w.1 e l w.3 in let b = no_farther w.0 k j w.2 w.1 q u w.3 in
-        omega (arith, w.3 i l e, w.3 k u q)) (least j c.size)
+        omega (arith, w.3 i l e, w.3 k u q)) (least j c.system.stations)
 
     -- all stations inside have echoed, and then readied, the next write of an owner inside
-    all_echo : (i : ℕ) (v : V) → In f i → i < c.size → h.published i (suc (number s i i)) ≡ Some v
-        → (a : ℕ) → a < c.size → In f a → h.echoed a i (suc (number s i i)) ≡ Some v
+    all_echo : (i : ℕ) (v : V) → In f i → i < c.system.stations → h.published i (suc (number s i i)) ≡ Some v
+        → (a : ℕ) → a < c.system.stations → In f a → h.echoed a i (suc (number s i i)) ≡ Some v
     all_echo i v e l p a u q =
         let same : number s a i ≡ number s i i = same_numbers a i i q u e l in
         let marked = heard_init i a v e q u (ap (λ z. h.published i (suc z)) same ∙ p) in
@@ -130,8 +130,8 @@ module _ {V : Type 0} (c : Setting V) (L : Lawful c) (f : ℕ) (ok : c.allowed f
         let t' : h.echoed a i (suc (number s i i)) ≡ Some t.0 = ap (λ z. h.echoed a i (suc z)) (sym same) ∙ t.1 in
         t' ∙ sym ((H.truthful.reasons a i q).echo_why (suc (number s i i)) t.0 t' e) ∙ p
 
-    all_ready : (i : ℕ) (v : V) → In f i → i < c.size → h.published i (suc (number s i i)) ≡ Some v
-        → (a : ℕ) → a < c.size → In f a → h.readied a i (suc (number s i i)) ≡ Some v
+    all_ready : (i : ℕ) (v : V) → In f i → i < c.system.stations → h.published i (suc (number s i i)) ≡ Some v
+        → (a : ℕ) → a < c.system.stations → In f a → h.readied a i (suc (number s i i)) ≡ Some v
     unfolding n
     all_ready i v e l p a u q =
         let same : number s a i ≡ number s i i = same_numbers a i i q u e l in
@@ -145,7 +145,7 @@ module _ {V : Type 0} (c : Setting V) (L : Lawful c) (f : ℕ) (ok : c.allowed f
         t' ∙ sym b.3 ∙ all_echo i v e l p b.0 b.1 b.2
 
     -- delivery at rest
-    pub all_delivered : (i x : ℕ) (v : V) → In f i → i < c.size → h.published i x ≡ Some v → x ≤ number s i i
+    pub all_delivered : (i x : ℕ) (v : V) → In f i → i < c.system.stations → h.published i x ≡ Some v → x ≤ number s i i
     all_delivered i x v e l p =
         ⊎_elim
         (λ lt.

@@ -37,10 +37,10 @@ grown_trans g h k a b =
       took = λ i j x v e. b.took i j x v (a.took i j x v e);
     }
 
-module _ {V : Type 0} (c : Setting V) (L : Lawful c) (f : ℕ) (ok : c.allowed f ≡ true) (v₀ : V) where
+module _ {V : Type 0} (c : Setting V) (L : Lawful c) (f : ℕ) (ok : c.system.allowed f ≡ true) (v₀ : V) where
   -- some quorum's members inside all said v
   abbrev pub Backed : (ℕ → Option V) → V → Type 0
-  Backed said v = (q : ℕ) × (c.quorum q ≡ true) × ((s : ℕ) → s < c.size → has q s ≡ true → In f s → said s ≡ Some v)
+  Backed said v = (q : ℕ) × (c.system.quorum q ≡ true) × ((s : ℕ) → s < c.system.stations → has q s ≡ true → In f s → said s ≡ Some v)
 
   -- two quorums share a station inside, so they back one value
   pub same_backed : (said : ℕ → Option V) (v w : V) → Backed said v → Backed said w → v ≡ w
@@ -51,7 +51,7 @@ module _ {V : Type 0} (c : Setting V) (L : Lawful c) (f : ℕ) (ok : c.allowed f
       cc
 
   -- a quorum backs with one station inside at least
-  pub one_backs : (said : ℕ → Option V) (v : V) → Backed said v → (s : ℕ) × (s < c.size) × In f s × (said s ≡ Some v)
+  pub one_backs : (said : ℕ → Option V) (v : V) → Backed said v → (s : ℕ) × (s < c.system.stations) × In f s × (said s ≡ Some v)
   one_backs said v b = let m = share c L f ok b.0 b.0 b.1 b.1 in (m.0, m.1, m.4, b.2 m.0 m.1 m.2 m.4)
 
   -- a message of a station inside says what that station said
@@ -274,7 +274,7 @@ module _ {V : Type 0} (c : Setting V) (L : Lawful c) (f : ℕ) (ok : c.allowed f
         })
         (T.reasons i j gd.0) (left p)
 
-    module _ (sized : s.figures.stations ≡ c.size) where
+    module _ (sized : s.figures.stations ≡ c.system.stations) where
       room : s.figures.stations ≤ 16
       room = omega (arith, L.laws.sized)
 
@@ -285,7 +285,7 @@ module _ {V : Type 0} (c : Setting V) (L : Lawful c) (f : ℕ) (ok : c.allowed f
       ready_voted : (i j : ℕ) (v : V) (k : ℕ) → In f i → has (ready_voters c i j v s) k ≡ true → In f k → h.readied k j (suc (number s i j)) ≡ Some v
       ready_voted i j v k e m q = (T.votes i j e).ready_votes k v (voter_said c L s.figures.stations room (s.cell i j).readies v k m).1 q
 
-      ready_among : (i j : ℕ) (v : V) → Among c.size (ready_voters c i j v s)
+      ready_among : (i j : ℕ) (v : V) → Among c.system.stations (ready_voters c i j v s)
       ready_among i j v k m = omega (arith, voters-among c L s.figures.stations room (s.cell i j).readies v k m)
 
       kept_send_ready : (i j : ℕ) (v : V) → Guard c f (SendReady i j v) s → Kept h (apply c f (SendReady i j v) s) (note c f v₀ (SendReady i j v) s h)

@@ -25,7 +25,7 @@ use Rattle.machine.proofs.AtRest.{idle_at_rest}
 use Rattle.machine.proofs.Acts.{In, none_fits}
 use Rattle.machine.proofs.Spreading.{same_numbers, all_delivered}
 
-module _ {V : Type 0} (R : Run V) (L : Lawful R.setting) (ok : R.setting.allowed R.opening.faulty ≡ true) where
+module _ {V : Type 0} (R : Run V) (L : Lawful R.setting) (ok : R.setting.system.allowed R.opening.faulty ≡ true) where
   abbrev c : Setting V
   c = R.setting
 
@@ -182,7 +182,7 @@ module _ {V : Type 0} (R : Run V) (L : Lawful R.setting) (ok : R.setting.allowed
       (ap (λ (s : State V). (s.station i).stage) (end_is R L ok) ∙ idle, λ b t. ended i b e idle t)
 
 -- an open that is not declined was handed an allowed faulty set
-faulty_allowed : {V : Type 0} (c : Setting V) (t : Lent) (o : Opening V) → open_decline c t o ≡ None → c.allowed o.faulty ≡ true
+faulty_allowed : {V : Type 0} (c : Setting V) (t : Lent) (o : Opening V) → open_decline c t o ≡ None → c.system.allowed o.faulty ≡ true
 faulty_allowed c t o e = not-false _ (none_fits c 0 (open_reasons c t o) e).1.0
 
 pub order_and_rest : {V : Type 0} (c : Setting V) → Lawful c → OrderAndRest c

@@ -136,7 +136,7 @@ receive_decline s None = Some NoSuchMessage
 receive_decline s (Some m) = cond (is_faulty s (receiver m)) None (first_that_fits (receive_reasons s m))
 
 abbrev pub take_decline : {V : Type 0} → Setting V → State V → ℕ → Option Decline
-take_decline c s place = cond (c.size == s.figures.stations) (receive_decline s (slice_get s.pool place)) (Some OtherSize)
+take_decline c s place = cond (c.system.stations == s.figures.stations) (receive_decline s (slice_get s.pool place)) (Some OtherSize)
 
 abbrev pub receive : {V : Type 0} → Setting V → ℕ → State V → Option (Message V) → Outcome V
 receive c place s None = leaves s
@@ -295,7 +295,7 @@ in_limits t n highest places =
 
 abbrev pub open_reasons : {V : Type 0} → Setting V → Lent → Opening V → List (Bool × Decline)
 open_reasons c t o =
-    (not (in_limits t c.size o.highest o.places), OutsideLimits) ∷ (not (c.allowed o.faulty), NotAllowed) ∷ []
+    (not (in_limits t c.system.stations o.highest o.places), OutsideLimits) ∷ (not (c.system.allowed o.faulty), NotAllowed) ∷ []
 
 abbrev pub open_decline : {V : Type 0} → Setting V → Lent → Opening V → Option Decline
 open_decline c t o = first_that_fits (open_reasons c t o)
@@ -303,7 +303,7 @@ open_decline c t o = first_that_fits (open_reasons c t o)
 abbrev pub opened : {V : Type 0} → Setting V → Opening V → State V
 opened c o =
     record {
-      figures = record { stations = c.size; faulty = o.faulty; highest = o.highest; places = o.places };
+      figures = record { stations = c.system.stations; faulty = o.faulty; highest = o.highest; places = o.places };
       cell = λ _ _. fresh_cell o.value 0;
       station = λ _. record { opening = o.value; written = 0; stage = Idle };
       reads = λ _ _. 0;

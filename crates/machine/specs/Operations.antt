@@ -30,7 +30,7 @@ abbrev pub freshness_at : {V : Type 0} → Setting V → ℕ → ℕ → State V
 freshness_at c i j s Idle = s
 freshness_at c i j s (Writing x done) = s
 freshness_at c i j s (Querying asked r reported) =
-    cond (asked == j && c.quorum (fresh_reports s.figures.stations (number s i j) reported (s.reports i))) (start_catching i j s) s
+    cond (asked == j && c.system.quorum (fresh_reports s.figures.stations (number s i j) reported (s.reports i))) (start_catching i j s) s
 freshness_at c i j s (Catching caught x v done) = s
 
 -- if station i is querying register j, and the stations whose report is at most its own number are a quorum, it goes on to catching
@@ -40,7 +40,7 @@ test_freshness c i j s = freshness_at c i j s (s.station i).stage
 -- WRITE_DONE from station k: while i is writing this number, k is done
 abbrev pub end_write : {V : Type 0} → Setting V → ℕ → ℕ → ℕ → State V → Outcome V
 end_write c i x done s =
-    cond (c.quorum done) (record { state = with_stage i Idle s; answer = WriteEnded i x }) (leaves (with_stage i (Writing x done) s))
+    cond (c.system.quorum done) (record { state = with_stage i Idle s; answer = WriteEnded i x }) (leaves (with_stage i (Writing x done) s))
 
 abbrev pub write_done_at : {V : Type 0} → Setting V → ℕ → ℕ → ℕ → State V → Stage V → Outcome V
 write_done_at c i k x s Idle = leaves s
@@ -78,7 +78,7 @@ on_catch_up i k j x s =
 -- CATCH_UP_DONE from station k: while i is catching this number, k is done; the reading returns what was noted
 abbrev pub end_read : {V : Type 0} → Setting V → ℕ → ℕ → ℕ → V → ℕ → State V → Outcome V
 end_read c i j x v done s =
-    cond (c.quorum done) (record { state = with_stage i Idle s; answer = ReadEnded i j x v }) (leaves (with_stage i (Catching j x v done) s))
+    cond (c.system.quorum done) (record { state = with_stage i Idle s; answer = ReadEnded i j x v }) (leaves (with_stage i (Catching j x v done) s))
 
 abbrev pub catch_up_done_at : {V : Type 0} → Setting V → ℕ → ℕ → ℕ → ℕ → State V → Stage V → Outcome V
 catch_up_done_at c i k j x s Idle = leaves s

@@ -75,7 +75,7 @@ is_none (Some a) = false
 
 -- ECHO votes for v that are a quorum
 abbrev pub count_echoes : {V : Type 0} → Setting V → ℕ → ℕ → V → State V → State V
-count_echoes c i j v s = cond (not (s.cell i j).copy.readied && c.quorum (echo_voters c i j v s)) (send_ready i j v s) s
+count_echoes c i j v s = cond (not (s.cell i j).copy.readied && c.system.quorum (echo_voters c i j v s)) (send_ready i j v s) s
 
 -- only the first vote of station k counts
 abbrev pub on_echo : {V : Type 0} → Setting V → ℕ → ℕ → ℕ → V → State V → State V
@@ -83,11 +83,11 @@ on_echo c i j k v s = cond (is_none ((s.cell i j).echoes k)) (count_echoes c i j
 
 -- READY votes for v that are more than faulty stations could cast
 abbrev pub join_readies : {V : Type 0} → Setting V → ℕ → ℕ → V → State V → State V
-join_readies c i j v s = cond (not (s.cell i j).copy.readied && not (c.allowed (ready_voters c i j v s))) (send_ready i j v s) s
+join_readies c i j v s = cond (not (s.cell i j).copy.readied && not (c.system.allowed (ready_voters c i j v s))) (send_ready i j v s) s
 
 -- READY votes for v that are a quorum
 abbrev pub count_readies : {V : Type 0} → Setting V → ℕ → ℕ → V → State V → State V
-count_readies c i j v s = cond (c.quorum (ready_voters c i j v s)) (test_freshness c i j (take_value i j v s)) s
+count_readies c i j v s = cond (c.system.quorum (ready_voters c i j v s)) (test_freshness c i j (take_value i j v s)) s
 
 abbrev pub on_ready : {V : Type 0} → Setting V → ℕ → ℕ → ℕ → V → State V → State V
 on_ready c i j k v s =

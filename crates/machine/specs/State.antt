@@ -2,25 +2,23 @@
 use Rattle.std.specs.Prelude.{◌≡◌, ℕ, Bool, false, cond, ◌&&◌, List, ◌++◌, map, None, Decides, Option, ◌==◌}
 use Rattle.std.specs.List.{range_with_len, remove as removed}
 use Rattle.station_set.specs.Sets.{has}
-use Rattle.quorum.specs.Laws.{Family, Laws}
+use Rattle.quorum.specs.Laws.{Families, Laws}
 use Rattle.machine.specs.declared.message.Message.{Message}
 use Rattle.machine.specs.declared.station.Stage.{Stage}
 use Rattle.machine.specs.declared.station.Station.{Station}
 use Rattle.machine.specs.declared.station.RegisterCopy.{RegisterCopy}
 
--- What a call is handed: the quorum system, by its size and its two families, and the test of sameness of values.
+-- What a call is handed: the quorum system, as its stations and its two families, and the test of sameness of values.
 pub record Setting (V : Type 0) : Type 0 where
-  pub size : ℕ
-  pub allowed : Family
-  pub quorum : Family
+  pub system : Families
   pub same : V → V → Bool
 
-abbrev pub setting : {V : Type 0} → ℕ → Family → Family → (V → V → Bool) → Setting V
-setting size allowed quorum same = record { size = size; allowed = allowed; quorum = quorum; same = same }
+abbrev pub setting : {V : Type 0} → Families → (V → V → Bool) → Setting V
+setting system same = record { system = system; same = same }
 
 -- what is supposed of it: the five laws, and that sameness of values is exact
 pub record Lawful {V : Type 0} (c : Setting V) : Type 0 where
-  pub laws : Laws c.size c.allowed c.quorum
+  pub laws : Laws c.system
   pub exact : (a b : V) → Decides (c.same a b) (a ≡ b)
 
 -- A station works on one publication of each register: the one after the number that its copy has.

@@ -4,6 +4,5 @@ use Rattle.machine.proofs.promise.broadcast_properties.Goals as goal
 
 pub returns : goal.returns
 returns g c =
-    let q = c.args.system.now in
-    broadcast_properties (setting (g.S.QuorumSystem.stations q) (g.S.QuorumSystem.allowed q) (g.S.QuorumSystem.quorum q) g.V.Value.equal)
+    broadcast_properties (setting (g.S.QuorumSystem.families c.args.system.now) g.V.PartialEq.eq)
     (record { laws = c.laws_hold.ensures; exact = g.met.V.Value.exact })
