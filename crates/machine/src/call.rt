@@ -2,7 +2,7 @@
 use decline::Decline;
 
 // What a bench is opened with: the faulty set, the highest number, the places of the pool, the opening value.
-#[derive(Clone, Copy)]
+#[derive(Clone, Copy, PartialEq, Eq, Debug)]
 pub struct Opening<V> {
     pub faulty: u16,
     pub highest: u64,
@@ -11,7 +11,7 @@ pub struct Opening<V> {
 }
 
 // The fields of a message that is forged, whether its kind uses them or not.
-#[derive(Clone, Copy)]
+#[derive(Clone, Copy, PartialEq, Eq, Debug)]
 pub struct Forgery<V> {
     pub kind: u64,
     pub sender: u64,
@@ -22,7 +22,7 @@ pub struct Forgery<V> {
     pub value: V,
 }
 
-#[derive(Clone, Copy)]
+#[derive(Clone, Copy, PartialEq, Eq, Debug)]
 pub enum Call<V> {
     Open(Opening<V>),
     BeginWrite { station: u64, value: V },
@@ -33,7 +33,7 @@ pub enum Call<V> {
     Count,
 }
 
-#[derive(Clone, Copy)]
+#[derive(Clone, Copy, PartialEq, Eq, Debug)]
 pub enum Answer<V> {
     // Opened, begun, taken, forged or withdrawn, and no operation ended.
     Done,

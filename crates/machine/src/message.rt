@@ -2,7 +2,7 @@
 
 // Every message names its sender and its receiver. INIT is about its sender's register and WRITE_DONE about its
 // receiver's; the others name theirs. A write is known by its number, a reading by its read number.
-#[derive(Clone, Copy)]
+#[derive(Clone, Copy, PartialEq, Eq, Debug)]
 pub enum Message<V> {
     Init {
         sender: usize,

@@ -1,7 +1,7 @@
 //! What a station keeps.
 
 // A station's operation. `done` and `reported` are sets of stations, as masks.
-#[derive(Clone, Copy)]
+#[derive(Clone, Copy, PartialEq, Eq, Debug)]
 pub enum Stage<V> {
     Idle,
     // Its write `number` is out; `done` have taken it.
@@ -25,7 +25,7 @@ pub enum Stage<V> {
 }
 
 // A station's record: the opening value, the number of its last write, and its operation.
-#[derive(Clone, Copy)]
+#[derive(Clone, Copy, PartialEq, Eq, Debug)]
 pub struct Station<V> {
     pub opening: V,
     pub written: u64,
@@ -33,7 +33,7 @@ pub struct Station<V> {
 }
 
 // A station's copy of a register, and what it has sent for the publication after it.
-#[derive(Clone, Copy)]
+#[derive(Clone, Copy, PartialEq, Eq, Debug)]
 pub struct RegisterCopy<V> {
     pub value: V,
     pub number: u64,

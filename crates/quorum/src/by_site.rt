@@ -10,6 +10,7 @@ ghost use Rattle.quorum.specs.SiteLaws.{sites_bounded, sites_seated, sites_empty
 
 use crate::unfit::Unfit;
 use crate::{MOST_STATIONS, QuorumSystem};
+use std::array;
 use station_set::{contains, is_among, missing};
 
 // Site numbers are 0 to 9.
@@ -22,7 +23,7 @@ const FEWEST_SITES: usize = 4;
 #[derive(Clone, Copy)]
 pub struct BySite {
     n: usize,
-    sites: [u8; 10],
+    sites: [u8; MOST_STATIONS],
     ghost whole: { length sites ≡ 10 },
     ghost some: { 1 ≤ n },
     ghost most: { n ≤ 10 },
@@ -99,17 +100,13 @@ fn check_limits(sites: &[u64]) -> Result<(), Unfit>
 }
 
 // The table of the sites.
-fn table_of(sites: &[u64]) -> [u8; 10]
+fn table_of(sites: &[u64]) -> [u8; MOST_STATIONS]
     requires { (length sites.now ≤ 10) × ((s : ℕ) → s < length sites.now → site_of sites.now s < 10) }
     ensures whole { length result ≡ 10 }
     ensures front { take (length sites.now) result ≡ sites.now }
     ensures occurring { sites_occurring result (length sites.now) ≡ sites_occurring sites.now (length sites.now) }
 {
-    let mut table = [0; 10];
-    for (s, site) in sites.iter().enumerate() {
-        table[s] = *site as u8;
-    }
-    table
+    array::from_fn(|s| sites.get(s).map_or(0, |site| *site as u8))
 }
 
 impl BySite {
