@@ -1,5 +1,5 @@
 -- Why the figures of a quorum system are declined, and what a constructor answers.
-use Rattle.std.specs.Prelude.{◌≡◌, ℕ, Some, None, Ok, Err, Option, Result}
+use Rattle.std.specs.Prelude.{◌≡◌, ℕ, List, Some, None, Ok, Err, codes, Option, Result}
 use Rattle.decline.specs.Numbers.{number_of}
 use Rattle.decline.specs.declared.Decline.{Decline}
 use Rattle.decline.specs.declared.Decline.TheVariants.{UnfitSystem}
@@ -13,6 +13,14 @@ decline_of TooManyStations = UnfitSystem
 decline_of TooManyFaults = UnfitSystem
 decline_of (NoSuchSite site) = UnfitSystem
 decline_of TooFewSites = UnfitSystem
+
+-- the words that tell each reason
+abbrev pub why : Unfit → List ℕ
+why NoStations = codes "there is no station"
+why TooManyStations = codes "there are more than ten stations"
+why TooManyFaults = codes "three times the faulty stations must be fewer than all stations"
+why (NoSuchSite site) = codes "site numbers are 0 to 9"
+why TooFewSites = codes "at least four sites must occur"
 
 -- a system as P says where nothing bars it, and otherwise the first reason that does
 abbrev pub MadeUnless : {S : Type 0} → Option Unfit → (S → Type 0) → Result S Unfit → Type 0

@@ -1,8 +1,10 @@
 //! Why the figures of a quorum system break its limits.
-ghost use Rattle.std.specs.Prelude.{◌≡◌};
-ghost use Rattle.quorum.specs.Reasons.{decline_of};
+ghost use Rattle.std.specs.Prelude.{◌≡◌, Some};
+ghost use Rattle.quorum.specs.Reasons.{decline_of, why};
 
 use decline::Decline;
+use std::error::Error;
+use std::fmt;
 
 #[derive(Clone, Copy, PartialEq, Eq, Debug)]
 pub enum Unfit {
@@ -30,3 +32,24 @@ impl From<Unfit> for Decline {
         }
     }
 }
+
+impl fmt::Display for Unfit {
+    ghost output = { λ reason. Some (why reason) };
+
+    fn fmt<W: fmt::Write>(&self, f: &mut fmt::Formatter<W>) -> fmt::Result {
+        match self {
+            Unfit::NoStations => write!(f, "there is no station"),
+            Unfit::TooManyStations => write!(f, "there are more than ten stations"),
+            Unfit::TooManyFaults => {
+                write!(
+                    f,
+                    "three times the faulty stations must be fewer than all stations"
+                )
+            }
+            Unfit::NoSuchSite(_) => write!(f, "site numbers are 0 to 9"),
+            Unfit::TooFewSites => write!(f, "at least four sites must occur"),
+        }
+    }
+}
+
+impl Error for Unfit {}

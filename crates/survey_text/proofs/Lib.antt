@@ -1,3 +1,3 @@
-pub mod Texts
+pub mod Members
 pub mod Spelled
-pub mod Named
+pub mod Told

@@ -1,5 +1,6 @@
 -- What the program answers to its arguments.
-use Rattle.std.specs.Prelude.{◌≡◌, ℕ, Bool, ◌⊎◌, List, length, vec_items, MatchOption}
+use Rattle.std.specs.Prelude.{◌≡◌, ℕ, Bool, ◌⊎◌, List, length, vec_items, MatchOption, Option}
+use Rattle.quorum.specs.declared.unfit.Unfit.{Unfit}
 use Rattle.quorum.specs.CountingSets.{at_most, all_but, counting_bar}
 use Rattle.quorum.specs.SiteSets.{one_site, lacks_one_site, sites_bar}
 use Rattle.census.specs.declared.Survey.{Survey}
@@ -14,19 +15,14 @@ abbrev pub Reports : ℕ → (ℕ → Bool) → (ℕ → Bool) → List ℕ → 
 Reports n allowed quorum name text = (survey : Survey) × Surveyed n allowed quorum survey × (text ≡ survey_text name survey)
 
 -- it tells of the system's survey, or of the first reason against its figures
-abbrev pub CountingAnswer : ℕ → ℕ → List ℕ → Type 0
-CountingAnswer n t text =
-    MatchOption (counting_bar n t) (Reports n (at_most n t) (all_but n t) (counting_name n t) text) (λ reason. text ≡ declined_text reason)
-
-abbrev pub SitesAnswer : List ℕ → List ℕ → Type 0
-SitesAnswer sites text =
-    MatchOption (sites_bar sites)
-    (Reports (length sites) (one_site sites (length sites)) (lacks_one_site sites (length sites)) (sites_name sites) text)
-    (λ reason. text ≡ declined_text reason)
+abbrev pub Told : Option Unfit → ℕ → (ℕ → Bool) → (ℕ → Bool) → List ℕ → List ℕ → Type 0
+Told bar n allowed quorum name text = MatchOption bar (Reports n allowed quorum name text) (λ reason. text ≡ declined_text reason)
 
 abbrev pub Answers : Request → List ℕ → Type 0
-Answers (Counting n t) text = CountingAnswer n t text
-Answers (Sites sites) text = SitesAnswer (vec_items sites) text
+Answers (Counting n t) text = Told (counting_bar n t) n (at_most n t) (all_but n t) (counting_name n t) text
+Answers (Sites sites) text =
+    let xs = vec_items sites in
+    Told (sites_bar xs) (length xs) (one_site xs (length xs)) (lacks_one_site xs (length xs)) (sites_name xs) text
 
 -- the answer to what the arguments ask, or how to call the program where they ask nothing
 abbrev pub Answered : List (List ℕ) → List ℕ → Type 0

@@ -4,9 +4,10 @@ use Rattle.std.specs.List.{flat_map}
 use Rattle.station_set.specs.Sets.{has}
 use Rattle.decline.specs.Numbers.{number_of}
 use Rattle.quorum.specs.declared.unfit.Unfit.{Unfit}
-use Rattle.quorum.specs.declared.unfit.Unfit.TheVariants.{NoStations, TooManyStations, TooManyFaults, NoSuchSite, TooFewSites}
-use Rattle.quorum.specs.Reasons.{decline_of}
+use Rattle.quorum.specs.Reasons.{decline_of, why}
 use Rattle.census.specs.declared.Survey.{Survey}
+use Rattle.survey_text.specs.declared.request.Request.{Request}
+use Rattle.survey_text.specs.declared.request.Request.TheVariants.{Counting, Sites}
 
 -- a number with a space before it
 abbrev pub spaced : ℕ → List ℕ
@@ -17,9 +18,13 @@ unfoldable pub members_text : ℕ → ℕ → List ℕ
 members_text zero set = []
 members_text (suc n) set = members_text n set ++ cond (has set n) (spaced n) []
 
--- a set on a line of its own, as { 0 2 3 }
+-- a set in braces, as { 0 2 3 }
+abbrev pub set_text : ℕ → List ℕ
+set_text set = codes "{" ++ members_text 16 set ++ codes " }"
+
+-- a set on a line of its own
 abbrev pub set_line : ℕ → List ℕ
-set_line set = codes "{" ++ members_text 16 set ++ codes " }\n"
+set_line set = set_text set ++ codes "\n"
 
 -- the lines of a survey: the two lists of sets, how many sets there are of each family, and what was surveyed
 abbrev pub survey_lines : List ℕ → List ℕ → ℕ → ℕ → List ℕ → List ℕ
@@ -39,14 +44,12 @@ counting_name n t = codes "counting " ++ (decimal n ++ (codes " " ++ decimal t))
 abbrev pub sites_name : List ℕ → List ℕ
 sites_name sites = codes "sites" ++ flat_map spaced sites
 
--- why a system is declined
-abbrev pub why : Unfit → List ℕ
-why NoStations = codes "there is no station"
-why TooManyStations = codes "there are more than ten stations"
-why TooManyFaults = codes "three times the faulty stations must be fewer than all stations"
-why (NoSuchSite site) = codes "site numbers are 0 to 9"
-why TooFewSites = codes "at least four sites must occur"
+-- what a request is called: the arguments that ask for it
+abbrev pub request_name : Request → List ℕ
+request_name (Counting n t) = counting_name n t
+request_name (Sites sites) = sites_name (vec_items sites)
 
+-- why a system is declined
 abbrev pub declined_text : Unfit → List ℕ
 declined_text reason = codes "declined " ++ (decimal (number_of (decline_of reason)) ++ (codes ": " ++ (why reason ++ codes "\n")))
 

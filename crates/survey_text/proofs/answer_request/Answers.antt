@@ -1,12 +1,16 @@
-use Rattle.std.proofs.Common.{ℕ, List, string_bytes, sym, subst}
+use Rattle.std.proofs.Common.{string_bytes}
 use Rattle.std.proofs.lemmas.Result.{IfOk-weaker}
-use Rattle.survey_text.specs.declared.request.Request.{Request}
-use Rattle.survey_text.specs.Answered.{SitesAnswer, Answers}
+use Rattle.survey_text.specs.Answered.{Answers}
+use Rattle.survey_text.proofs.Told.{counting_told, sites_told}
 use Rattle.survey_text.proofs.answer_request.Goals as goal
+
+pub returns-in-Counting : goal.returns-in-Counting
+returns-in-Counting c =
+    IfOk-weaker c.survey_made.result _ (λ text. Answers c.args.request.now (string_bytes text))
+    (λ text. counting_told c.args.request.now c.in-Counting.n c.in-Counting.t c.new.result (string_bytes text) c.in-Counting.is c.new.ensures.answer) c.survey_made.ensures
 
 pub returns-in-Sites : goal.returns-in-Sites
 returns-in-Sites c =
-    IfOk-weaker c.survey_sites.result (λ text. SitesAnswer c.as_slice.result.now (string_bytes text)) (λ text. Answers c.args.request (string_bytes text))
-    (λ text told.
-    let by-items = subst (λ (xs : List ℕ). SitesAnswer xs (string_bytes text)) c.as_slice.ensures.value told in
-    subst (λ (request : Request). Answers request (string_bytes text)) (sym c.in-Sites.is) by-items) c.survey_sites.ensures
+    IfOk-weaker c.survey_made-in-Sites.result _ (λ text. Answers c.args.request.now (string_bytes text))
+    (λ text. sites_told c.args.request.now c.in-Sites.sites c.as_slice.result.now c.new-in-Sites.result (string_bytes text) c.in-Sites.is c.as_slice.ensures.value c.new-in-Sites.ensures.answer)
+    c.survey_made-in-Sites.ensures
