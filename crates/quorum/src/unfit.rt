@@ -37,18 +37,13 @@ impl fmt::Display for Unfit {
     ghost output = { λ reason. Some (why reason) };
 
     fn fmt<W: fmt::Write>(&self, f: &mut fmt::Formatter<W>) -> fmt::Result {
-        match self {
-            Unfit::NoStations => write!(f, "there is no station"),
-            Unfit::TooManyStations => write!(f, "there are more than ten stations"),
-            Unfit::TooManyFaults => {
-                write!(
-                    f,
-                    "three times the faulty stations must be fewer than all stations"
-                )
-            }
-            Unfit::NoSuchSite(_) => write!(f, "site numbers are 0 to 9"),
-            Unfit::TooFewSites => write!(f, "at least four sites must occur"),
-        }
+        f.write_str(match self {
+            Unfit::NoStations => "there is no station",
+            Unfit::TooManyStations => "there are more than ten stations",
+            Unfit::TooManyFaults => "three times the faulty stations must be fewer than all stations",
+            Unfit::NoSuchSite(_) => "site numbers are 0 to 9",
+            Unfit::TooFewSites => "at least four sites must occur",
+        })
     }
 }
 

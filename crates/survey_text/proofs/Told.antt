@@ -18,13 +18,12 @@ use Rattle.survey_text.specs.Answered.{Reports, Answers}
 -- the system that was made, or the first reason that bars it, is what the figures give
 told : {S : Type 0} (bar : Option Unfit) (P R : S → Type 0) (A : Type 0) (D : Unfit → Type 0) (made : Result S Unfit)
     → MadeUnless bar P made → ((system : S) → P system → R system → A) → MatchResult made R D → MatchOption bar A D
-told bar P R A D (Ok system) m h t = subst (λ (o : Option Unfit). MatchOption o A D) (sym m.0) (h system m.1 t)
-told bar P R A D (Err reason) m h t = subst (λ (o : Option Unfit). MatchOption o A D) (sym m) t
+told bar P R A D (Ok system) m h t = rw m.0 (h system m.1 t)
+told bar P R A D (Err reason) m h t = rw m t
 
 -- the same figures give the same sets
 by_figures : (n t m s : ℕ) (name text : List ℕ) → (m ≡ n) × (s ≡ t) → Reports m (at_most m s) (all_but m s) name text → Reports n (at_most n t) (all_but n t) name text
-by_figures n t m s name text same h =
-    subst (λ (k : ℕ). Reports n (at_most n k) (all_but n k) name text) same.1 (subst (λ (k : ℕ). Reports k (at_most k s) (all_but k s) name text) same.0 h)
+by_figures n t m s name text same h = rw (← same.0, ← same.1) h
 
 -- a table that begins with the sites gives the same sets
 by_sites : (sites table : List ℕ) (n : ℕ) (name text : List ℕ) → (n ≡ length sites) × (take n table ≡ sites)
@@ -34,9 +33,7 @@ by_sites sites table n name text made h =
     let same : (k : ℕ) → k < n → site_of table k ≡ site_of sites k = λ k l. sym (get_or-take n table k 0 l) ∙ ap (λ xs. site_of xs k) made.1 in
     let allowed : one_site table n ≡ one_site sites n = fun_ext (same_one_site table sites n same) in
     let quorum : lacks_one_site table n ≡ lacks_one_site sites n = fun_ext (same_lacks table sites n same) in
-    let by_allowed = subst (λ (f : ℕ → Bool). Reports n f (lacks_one_site table n) name text) allowed h in
-    let by_quorum = subst (λ (f : ℕ → Bool). Reports n (one_site sites n) f name text) quorum by_allowed in
-    subst (λ (k : ℕ). Reports k (one_site sites k) (lacks_one_site sites k) name text) made.0 by_quorum
+    rw (← made.0, ← allowed, ← quorum) h
 
 pub counting_told : (request : Request) (n t : ℕ) (made : Result Counting Unfit) (text : List ℕ) → request ≡ Request.Counting n t
     → MadeUnless (counting_bar n t) (λ q. (q.n ≡ n) × (q.t ≡ t)) made
