@@ -40,7 +40,8 @@ impl fmt::Display for Unfit {
         f.write_str(match self {
             Unfit::NoStations => "there is no station",
             Unfit::TooManyStations => "there are more than ten stations",
-            Unfit::TooManyFaults => "three times the faulty stations must be fewer than all stations",
+            Unfit::TooManyFaults =>
+                "three times the faulty stations must be fewer than all stations",
             Unfit::NoSuchSite(_) => "site numbers are 0 to 9",
             Unfit::TooFewSites => "at least four sites must occur",
         })

@@ -1,5 +1,5 @@
 -- What words spell, as they are read one by one.
-use Rattle.std.proofs.Common.{◌≡◌, ℕ, zero, suc, ◌+◌, ◌<◌, ◌≤◌, List, [], ◌∷◌, ◌++◌, length, get_or, take, drop, string_bytes, codes, String, sym, refl, ap, ◌∙◌, subst, arith}
+use Rattle.std.proofs.Common.{◌≡◌, ℕ, zero, suc, ◌+◌, ◌<◌, ◌≤◌, List, [], ◌∷◌, ◌++◌, length, get_or, take, drop, string_bytes, codes, String, sym, ap, ◌∙◌, arith}
 use Rattle.std.specs.declared.alloc.Global.{Global}
 use Rattle.std.proofs.lemmas.List.{length-map, map_more, get_or-map}
 use Rattle.std.proofs.lemmas.Slice.Zip.{AllZip-long}
@@ -33,7 +33,7 @@ pub spells_none : (words : List (String Global)) (i : ℕ) (x : String Global) �
 spells_none words i x l e unread ns all =
     let found = spell_all_at (words_of words) ns i all (omega (arith, length-map words string_bytes)) in
     let word : get_or (words_of words) i [] ≡ string_bytes x = get_or-map string_bytes words i x [] l ∙ ap string_bytes (sym e) in
-    unread found.0 (subst (λ (w : List ℕ). Spells w found.0) word found.1)
+    unread found.0 (rw (← word) found.1)
 
 -- the words, by the first and the rest
 pub words_split : (words : List (String Global)) (x : String Global) → 1 ≤ length words → x ≡ get_or words 0 x → words_of words ≡ string_bytes x ∷ words_of (drop 1 words)

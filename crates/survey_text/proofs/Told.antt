@@ -1,5 +1,5 @@
 -- What is told of a system that was made is told of its figures.
-use Rattle.std.proofs.Common.{◌≡◌, ℕ, ◌<◌, Bool, List, length, take, Ok, Err, None, Option, Result, Vec, vec_items, sym, ap, ◌∙◌, subst, MatchOption, MatchResult}
+use Rattle.std.proofs.Common.{◌≡◌, ℕ, ◌<◌, List, length, take, Ok, Err, Option, Result, Vec, vec_items, sym, ap, ◌∙◌, MatchOption, MatchResult}
 use Rattle.std.specs.declared.alloc.Global.{Global}
 use mathlib.Core.Path.{fun_ext}
 use Rattle.std.proofs.lemmas.List.{get_or-take}
@@ -11,7 +11,6 @@ use Rattle.quorum.specs.CountingSets.{at_most, all_but, counting_bar}
 use Rattle.quorum.specs.SiteSets.{site_of, one_site, lacks_one_site, sites_bar}
 use Rattle.quorum.proofs.SiteLists.{same_one_site, same_lacks}
 use Rattle.survey_text.specs.declared.request.Request.{Request}
-use Rattle.survey_text.specs.declared.request.Request.TheVariants as Request
 use Rattle.survey_text.specs.Printed.{counting_name, sites_name, request_name, declined_text}
 use Rattle.survey_text.specs.Answered.{Reports, Answers}
 
