@@ -3,7 +3,7 @@ use Rattle.std.specs.Prelude.{ℕ, List, [], ◌∷◌, length, Option, nat_eq}
 use Rattle.station_set.specs.Sets.{union, single}
 use Rattle.quorum.specs.declared.unfit.Unfit.{Unfit}
 use Rattle.quorum.specs.Laws.{Families}
-use Rattle.quorum.specs.CountingSets.{counting as by_count, counting_bar}
+use Rattle.quorum.specs.CountingSets.{by_count, counting_bar}
 use Rattle.quorum.specs.SiteSets.{by_site, sites_bar}
 use Rattle.machine.specs.State.{Setting}
 

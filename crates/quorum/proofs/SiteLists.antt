@@ -1,13 +1,14 @@
 -- Lists of sites: the first limit that one breaks, and a table that begins with one.
-use Rattle.std.proofs.Common.{◌≡◌, ℕ, ◌<◌, ◌≤◌, cond, not, ◌&&◌, ◌||◌, eqb, ltb, leb, List, [], ◌∷◌, length, get_or, take, Some, None, Option, sym, refl, ap, ◌∙◌, ⊎_elim, arith}
+use Rattle.std.proofs.Common.{◌≡◌, ℕ, ◌<◌, ◌≤◌, cond, not, ◌&&◌, ◌||◌, eqb, ltb, leb, List, [], ◌∷◌, length, get_or, take, Some, None, Option, sym, refl, ap, ap₂, ◌∙◌, ⊎_elim, arith}
 use Rattle.std.specs.List.{find}
+use mathlib.Core.Path.{fun_ext}
 use Rattle.std.proofs.lemmas.List.{ext_get_or, length-take-le, get_or-take}
 use Rattle.std.proofs.lemmas.Bool.{cases_lt, cond-true, cond-false, eq-eqb, ne_eqb, lt-ltb, le-ltb, lt-leb, le-leb}
 use Rattle.station_set.specs.Sets.{has, among, missing}
 use Rattle.station_set.proofs.Below.{all_same, any_same, count_same}
 use Rattle.quorum.specs.declared.unfit.Unfit.{Unfit}
 use Rattle.quorum.specs.declared.unfit.Unfit.TheVariants.{NoStations, TooManyStations, NoSuchSite, TooFewSites}
-use Rattle.quorum.specs.SiteSets.{site_of, share_site, one_site, lacks_one_site, occurs, sites_occurring, bad_site_or, sites_bar}
+use Rattle.quorum.specs.SiteSets.{site_of, share_site, one_site, lacks_one_site, by_site, occurs, sites_occurring, bad_site_or, sites_bar}
 
 -- ---- the first limit that a list breaks
 
@@ -62,22 +63,27 @@ table_front xs ys le same =
     ext_get_or 0 _ _ len (λ i h. let k : i < length xs = omega arith in get_or-take (length xs) ys i 0 k ∙ same i k)
 
 -- lists that agree on the n stations have the same families
-pub same_one_site : (xs ys : List ℕ) (n : ℕ) → ((k : ℕ) → k < n → site_of xs k ≡ site_of ys k) → (set : ℕ) → one_site xs n set ≡ one_site ys n set
+same_share : (xs ys : List ℕ) (n : ℕ) → ((k : ℕ) → k < n → site_of xs k ≡ site_of ys k) → (set : ℕ) → share_site xs n set ≡ share_site ys n set
 unfolding share_site
-same_one_site xs ys n same set =
-    ap (λ t. among n set && t)
-    (all_same n _ _ (λ s ls. all_same n _ _ (λ u lu. ap (λ k. not (has set s && has set u) || eqb k (site_of xs u)) (same s ls) ∙ ap (λ k. not (has set s && has set u) || eqb (site_of ys s) k) (same u lu))))
+same_share xs ys n same set =
+    all_same n _ _ (λ s ls. all_same n _ _ (λ u lu. ap (λ k. not (has set s && has set u) || eqb k (site_of xs u)) (same s ls) ∙ ap (λ k. not (has set s && has set u) || eqb (site_of ys s) k) (same u lu)))
+
+pub same_one_site : (xs ys : List ℕ) (n : ℕ) → ((k : ℕ) → k < n → site_of xs k ≡ site_of ys k) → (set : ℕ) → one_site xs n set ≡ one_site ys n set
+same_one_site xs ys n same set = ap (λ t. among n set && t) (same_share xs ys n same set)
 
 -- the first n of the sites decide whether a set shares one
 pub share_front : (xs : List ℕ) (n : ℕ) → n ≤ length xs → (set : ℕ) → share_site (take n xs) (length (take n xs)) set ≡ share_site xs n set
-unfolding share_site
 share_front xs n room set =
-    let same = λ (k : ℕ) (h : k < n). get_or-take n xs k 0 h in
-    ap (λ m. share_site (take n xs) m set) (length-take-le n xs room)
-    ∙ all_same n _ _ (λ s ls. all_same n _ _ (λ u lu. ap (λ k. not (has set s && has set u) || eqb k (site_of (take n xs) u)) (same s ls) ∙ ap (λ k. not (has set s && has set u) || eqb (site_of xs s) k) (same u lu)))
+    ap (λ m. share_site (take n xs) m set) (length-take-le n xs room) ∙ same_share (take n xs) xs n (λ k h. get_or-take n xs k 0 h) set
 
 pub same_lacks : (xs ys : List ℕ) (n : ℕ) → ((k : ℕ) → k < n → site_of xs k ≡ site_of ys k) → (set : ℕ) → lacks_one_site xs n set ≡ lacks_one_site ys n set
 same_lacks xs ys n same set = ap (λ t. among n set && t) (same_one_site xs ys n same (missing n set))
+
+pub same_families : (xs ys : List ℕ) (n : ℕ) → ((k : ℕ) → k < n → site_of xs k ≡ site_of ys k) → by_site xs n ≡ by_site ys n
+same_families xs ys n same =
+    let allowed : one_site xs n ≡ one_site ys n = fun_ext (same_one_site xs ys n same) in
+    let quorum : lacks_one_site xs n ≡ lacks_one_site ys n = fun_ext (same_lacks xs ys n same) in
+    ap₂ (λ a q. record { stations = n; allowed = a; quorum = q }) allowed quorum
 
 pub same_sites : (xs ys : List ℕ) (n : ℕ) → ((k : ℕ) → k < n → site_of xs k ≡ site_of ys k) → sites_occurring xs n ≡ sites_occurring ys n
 unfolding sites_occurring

@@ -7,7 +7,7 @@ use Rattle.station_set.specs.Sets.{has, among, common, missing, members}
 use Rattle.station_set.proofs.Below.{false_if_not, count_le, count_no, count_mono, count_same, count_both_either, count_opposite}
 use Rattle.station_set.proofs.Members.{among_and, has_none, has-common, has_missing_below, missing-among, members_below}
 use Rattle.quorum.specs.Laws.{OfStations, EmptyAllowed, SubsetAllowed, SupersetQuorum, OverlapNotAllowed, OutsideQuorum}
-use Rattle.quorum.specs.CountingSets.{at_most, all_but, counting, AtMost, AllBut}
+use Rattle.quorum.specs.CountingSets.{at_most, all_but, by_count, AtMost, AllBut}
 
 decides_leb : (a b : ℕ) → Decides (nat_le a b) (a ≤ b)
 decides_leb a b = (leb-true a b, le-leb a b)
@@ -30,20 +30,20 @@ module _ (n t : ℕ) where
   pub counting_seated : OfStations n (all_but n t)
   counting_seated a e = ((all_but_words a).0 e).0
 
-  pub counting_empty : EmptyAllowed (counting n t)
+  pub counting_empty : EmptyAllowed (by_count n t)
   counting_empty = (at_most_words 0).1 ((λ s member. absurd (both_ways _ (has_none s) member)), omega (arith, count_no n (has 0) (λ s _. has_none s)))
 
-  pub counting_subset : SubsetAllowed (counting n t)
+  pub counting_subset : SubsetAllowed (by_count n t)
   counting_subset a b inside e =
       let w = (at_most_words b).0 e in
       (at_most_words a).1 ((λ s h. w.0 s (inside s h)), omega (arith, w.1, count_mono n (has a) (has b) (λ s _. inside s)))
 
-  pub counting_superset : SupersetQuorum (counting n t)
+  pub counting_superset : SupersetQuorum (by_count n t)
   counting_superset a b inside among e =
       let w = (all_but_words a).0 e in
       (all_but_words b).1 (among, omega (arith, w.1, count_mono n (has a) (has b) (λ s _. inside s)))
 
-  pub counting_overlap : 3 * t < n → OverlapNotAllowed (counting n t)
+  pub counting_overlap : 3 * t < n → OverlapNotAllowed (by_count n t)
   counting_overlap few a b ea eb =
       let wa = (all_but_words a).0 ea in
       let wb = (all_but_words b).0 eb in
@@ -59,7 +59,7 @@ module _ (n t : ℕ) where
         count_le n (λ s. has a s || has b s),
       ))
 
-  pub counting_outside : n ≤ 16 → OutsideQuorum (counting n t)
+  pub counting_outside : n ≤ 16 → OutsideQuorum (by_count n t)
   counting_outside room a e =
       let w = (at_most_words a).0 e in
       (all_but_words (missing n a)).1

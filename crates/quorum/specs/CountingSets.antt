@@ -14,8 +14,8 @@ at_most n t set = among n set && nat_le (members set) t
 abbrev pub all_but : ℕ → ℕ → ℕ → Bool
 all_but n t set = among n set && nat_le (n - t) (members set)
 
-abbrev pub counting : ℕ → ℕ → Families
-counting n t = record { stations = n; allowed = at_most n t; quorum = all_but n t }
+abbrev pub by_count : ℕ → ℕ → Families
+by_count n t = record { stations = n; allowed = at_most n t; quorum = all_but n t }
 
 -- The same in words: each member is one of the n stations, and of these at most t, or at least n - t, are members.
 abbrev pub AtMost : ℕ → ℕ → ℕ → Type 0

@@ -1,6 +1,6 @@
 //! Quorums by count: of n stations at most t may be faulty.
 ghost use Rattle.std.specs.Prelude.{◌≡◌, ◌*◌, ◌<◌, ◌≤◌, is_ok, Decides};
-ghost use Rattle.quorum.specs.CountingSets.{counting, CountingInWords, CountingLimits, counting_bar};
+ghost use Rattle.quorum.specs.CountingSets.{by_count, CountingInWords, CountingLimits, counting_bar};
 ghost use Rattle.quorum.specs.Reasons.{MadeUnless, DeclinedWith};
 ghost use Rattle.quorum.specs.CountingLaws.{counting_bounded, counting_seated, counting_empty, counting_subset, counting_superset, counting_overlap, counting_outside};
 ghost use Rattle.std.proofs.Common.{arith};
@@ -43,7 +43,7 @@ impl Counting {
 }
 
 impl QuorumSystem for Counting {
-    ghost families = { λ q. counting q.n q.t };
+    ghost families = { λ q. by_count q.n q.t };
 
     ghost sized = { λ q. omega arith };
 

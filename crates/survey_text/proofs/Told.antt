@@ -1,15 +1,14 @@
 -- What is told of a system that was made is told of its figures.
 use Rattle.std.proofs.Common.{◌≡◌, ℕ, ◌<◌, List, length, take, Ok, Err, Option, Result, Vec, vec_items, sym, ap, ◌∙◌, MatchOption, MatchResult}
 use Rattle.std.specs.declared.alloc.Global.{Global}
-use mathlib.Core.Path.{fun_ext}
 use Rattle.std.proofs.lemmas.List.{get_or-take}
 use Rattle.quorum.specs.declared.unfit.Unfit.{Unfit}
 use Rattle.quorum.specs.Reasons.{MadeUnless}
 use Rattle.quorum.specs.declared.counting.Counting.{Counting}
 use Rattle.quorum.specs.declared.by_site.BySite.{BySite}
-use Rattle.quorum.specs.CountingSets.{at_most, all_but, counting_bar}
-use Rattle.quorum.specs.SiteSets.{site_of, one_site, lacks_one_site, sites_bar}
-use Rattle.quorum.proofs.SiteLists.{same_one_site, same_lacks}
+use Rattle.quorum.specs.CountingSets.{by_count, counting_bar}
+use Rattle.quorum.specs.SiteSets.{site_of, by_site, sites_bar}
+use Rattle.quorum.proofs.SiteLists.{same_families}
 use Rattle.survey_text.specs.declared.request.Request.{Request}
 use Rattle.survey_text.specs.Printed.{counting_name, sites_name, request_name, declined_text}
 use Rattle.survey_text.specs.Answered.{Reports, Answers}
@@ -21,29 +20,26 @@ told bar P R A D (Ok system) m h t = rw m.0 (h system m.1 t)
 told bar P R A D (Err reason) m h t = rw m t
 
 -- the same figures give the same sets
-by_figures : (n t m s : ℕ) (name text : List ℕ) → (m ≡ n) × (s ≡ t) → Reports m (at_most m s) (all_but m s) name text → Reports n (at_most n t) (all_but n t) name text
+by_figures : (n t m s : ℕ) (name text : List ℕ) → (m ≡ n) × (s ≡ t) → Reports (by_count m s) name text → Reports (by_count n t) name text
 by_figures n t m s name text same h = rw (← same.0, ← same.1) h
 
 -- a table that begins with the sites gives the same sets
 by_sites : (sites table : List ℕ) (n : ℕ) (name text : List ℕ) → (n ≡ length sites) × (take n table ≡ sites)
-    → Reports n (one_site table n) (lacks_one_site table n) name text
-    → Reports (length sites) (one_site sites (length sites)) (lacks_one_site sites (length sites)) name text
+    → Reports (by_site table n) name text → Reports (by_site sites (length sites)) name text
 by_sites sites table n name text made h =
     let same : (k : ℕ) → k < n → site_of table k ≡ site_of sites k = λ k l. sym (get_or-take n table k 0 l) ∙ ap (λ xs. site_of xs k) made.1 in
-    let allowed : one_site table n ≡ one_site sites n = fun_ext (same_one_site table sites n same) in
-    let quorum : lacks_one_site table n ≡ lacks_one_site sites n = fun_ext (same_lacks table sites n same) in
-    rw (← made.0, ← allowed, ← quorum) h
+    rw (← made.0, ← same_families table sites n same) h
 
 pub counting_told : (request : Request) (n t : ℕ) (made : Result Counting Unfit) (text : List ℕ) → request ≡ Request.Counting n t
     → MadeUnless (counting_bar n t) (λ q. (q.n ≡ n) × (q.t ≡ t)) made
-    → MatchResult made (λ q. Reports q.n (at_most q.n q.t) (all_but q.n q.t) (request_name request) text) (λ reason. text ≡ declined_text reason)
+    → MatchResult made (λ q. Reports (by_count q.n q.t) (request_name request) text) (λ reason. text ≡ declined_text reason)
     → Answers request text
 counting_told request n t made text is right =
     rw is (told _ _ _ _ _ made right (λ q same. by_figures n t q.n q.t (counting_name n t) text same))
 
 pub sites_told : (request : Request) (sites : Vec ℕ Global) (xs : List ℕ) (made : Result BySite Unfit) (text : List ℕ) → request ≡ Request.Sites sites → xs ≡ vec_items sites
     → MadeUnless (sites_bar xs) (λ q. (q.n ≡ length xs) × (take q.n q.sites ≡ xs)) made
-    → MatchResult made (λ q. Reports q.n (one_site q.sites q.n) (lacks_one_site q.sites q.n) (request_name request) text) (λ reason. text ≡ declined_text reason)
+    → MatchResult made (λ q. Reports (by_site q.sites q.n) (request_name request) text) (λ reason. text ≡ declined_text reason)
     → Answers request text
 sites_told request sites xs made text is items right =
     rw (is, ← items) (told _ _ _ _ _ made right (λ q front. by_sites xs q.sites q.n (sites_name xs) text front))

@@ -32,7 +32,7 @@ fn survey_made<S: QuorumSystem + Drop>(
     made: Result<S, Unfit>,
 ) -> Result<String, AllocError>
     ensures { IfOk result (λ text. MatchResult made
-        (λ system. Reports (S.QuorumSystem.stations system) (S.QuorumSystem.allowed system) (S.QuorumSystem.quorum system) (request_name request.now) (string_bytes text))
+        (λ system. Reports (S.families system) (request_name request.now) (string_bytes text))
         (λ reason. string_bytes text ≡ declined_text reason)) }
 {
     match made {

@@ -11,5 +11,5 @@ returns-in_ok-survey-in-Ok g c =
     let q = c.in-Ok.system in
     rw c.in-Ok.is
     (IfOk-weaker c.format.result (λ text. string_bytes text ≡ survey_text name survey)
-    (λ text. Reports (g.S.QuorumSystem.stations q) (g.S.QuorumSystem.allowed q) (g.S.QuorumSystem.quorum q) name (string_bytes text))
+    (λ text. Reports (g.S.QuorumSystem.families q) name (string_bytes text))
     (λ text e. (survey, c.in_ok-survey-in-Ok.ensures, e)) c.format.ensures.ok)
