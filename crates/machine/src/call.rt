@@ -13,6 +13,7 @@ pub struct Opening<V> {
 // The fields of a message that is forged, whether its kind uses them or not.
 #[derive(Clone, Copy, PartialEq, Eq, Debug)]
 pub struct Forgery<V> {
+    // A number, since a call may spell a kind that no message has.
     pub kind: u64,
     pub sender: u64,
     pub receiver: u64,

@@ -19,7 +19,8 @@ const SITES: u64 = 10;
 // So many different sites have to occur.
 const FEWEST_SITES: usize = 4;
 
-// Station s stands at the site `sites[s]`; the places from n up are not used.
+// Station s stands at the site `sites[s]`; the places from n up are not used. The table has a fixed size, and is no Vec,
+// since a system is copied, and making one never runs out of memory.
 #[derive(Clone, Copy)]
 pub struct BySite {
     n: usize,
