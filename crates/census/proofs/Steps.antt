@@ -1,79 +1,84 @@
 -- A set bounds its family where one station more, or one less, leads out of the family.
-use Rattle.std.proofs.Common.{◌≡◌, ℕ, ◌^◌, ◌<◌, ◌≤◌, Bool, true, false, not, ◌&&◌, eqb, sym, refl, ap, ◌∙◌, subst, ⊎_elim, arith, pow_mono}
-use Rattle.std.proofs.lemmas.Bool.{cases_Bool, both_ways, eq-eqb, ne_eqb, eqb-true, or_left, or_right, or_cases, and_parts, and_from, and_right, not-true, not_from_true, not_from_false}
+use Rattle.std.proofs.Common.{◌≡◌, ℕ, ◌^◌, ◌<◌, Bool, true, false, not, ◌&&◌, ◌||◌, Decides, eqb, get_or, sym, subst, arith, pow_mono}
+use Rattle.std.specs.List.{list_all, range_with_len}
+use Rattle.std.proofs.lemmas.Bool.{both_ways, and_parts, not-true, not_from_false, false_from_ne_true}
+use Rattle.std.proofs.lemmas.Bool.Decides.{Decides-like, nat_tests}
+use Rattle.std.proofs.lemmas.List.FromFn.{length-range_with_len, get_or-range_with_len}
+use Rattle.std.proofs.lemmas.List.Sums.{AllPass-from_list_all, list_all-from_AllPass}
 use Rattle.station_set.specs.Sets.{has, Inside, Among, with_station, without_station}
-use Rattle.station_set.proofs.Below.{false_if_not}
 use Rattle.station_set.proofs.Members.{same_members, below_among, has_with, has_without}
-use Rattle.quorum.specs.Laws.{OfStations, SubsetAllowed, SupersetQuorum}
+use Rattle.quorum.specs.Laws.{Families, Laws}
 use Rattle.census.specs.declared.Family.{Family}
 use Rattle.census.specs.declared.Family.TheVariants.{Allowed, Quorums}
-use Rattle.census.specs.Outermost.{family_of, grows, shrinks, Outermost}
+use Rattle.census.specs.Outermost.{family_of, steps, Beyond, Outermost}
 
--- sets inside each other are the same
-same_by_inside : (a b : ℕ) → Inside a b → Inside b a → a ≡ b
-same_by_inside a b ab ba =
-    same_members a b (λ s. ⊎_elim (λ e. e ∙ sym (ab s e)) (λ out. out ∙ sym (false_if_not _ (λ h. both_ways _ out (ba s h)))) (cases_Bool (has a s)))
+-- what `all` over a range says of each number in it
+all_in_range : (n : ℕ) (p : ℕ → Bool) → Decides (list_all p (range_with_len 0 n)) ((k : ℕ) → k < n → p k ≡ true)
+all_in_range n p =
+    let at : (k d : ℕ) → k < n → get_or (range_with_len 0 n) k d ≡ k = λ k d l. omega (arith, get_or-range_with_len 0 n k d l) in
+    let long = length-range_with_len 0 n in (
+      (λ e k l. subst (λ s. p s ≡ true) (at k 0 l) (AllPass-from_list_all p _ e k 0 (omega (arith, long)))),
+      (λ h. list_all-from_AllPass p _ (λ k d l. let below : k < n = omega (arith, long) in subst (λ s. p s ≡ true) (sym (at k d below)) (h k below))),
+    )
 
-module _ (n : ℕ) (room : n ≤ 16) (allowed quorum : ℕ → Bool) where
-  -- ---- allowed sets
+module _ (q : Families) (laws : Laws q) where
+  -- the members of a set of either family are stations
+  family_among : (family : Family) (set : ℕ) → family_of family q set ≡ true → Among q.stations set
+  family_among Allowed = laws.bounded
+  family_among Quorums = laws.seated
 
-  pub largest_from : OfStations n allowed → SubsetAllowed allowed → (set : ℕ) → allowed set ≡ true
-      → ((k : ℕ) → k < n → grows allowed set k ≡ false) → Outermost Allowed allowed quorum set
-  largest_from bounded subset set ok none = (ok, λ b ok_b inside. same_by_inside b set (back b ok_b inside) inside)
-    where
-      back : (b : ℕ) → allowed b ≡ true → Inside set b → Inside b set
-      back b ok_b inside k member =
-          ⊎_elim (λ e. e)
-          (λ out.
-          let l = bounded b ok_b k member in
-          let in_b : Inside (with_station set k) b = λ s h.
-          ⊎_elim (inside s) (λ e. subst (λ u. has b u ≡ true) (sym (eqb-true s k e)) member)
-          (or_cases (has set s) (eqb s k) (sym (has_with set k s (omega arith)) ∙ h)) in
-          absurd (both_ways _ (none k l) (and_from (not (has set k)) (allowed (with_station set k)) (not_from_false _ out) (subset (with_station set k) b in_b ok_b))))
-          (cases_Bool (has set k))
+  pub family_below : (family : Family) (set : ℕ) → family_of family q set ≡ true → set < 2 ^ q.stations
+  family_below family set ok = below_among q.stations set (family_among family set ok)
 
-  pub not_largest : (set k : ℕ) → k < n → grows allowed set k ≡ true → Outermost Allowed allowed quorum set → ⊥
-  not_largest set k l grown outer =
-      let w = and_parts (not (has set k)) (allowed (with_station set k)) grown in
-      let inside : Inside set (with_station set k) = λ s h. has_with set k s (omega arith) ∙ or_left (has set s) (eqb s k) h in
-      let here : has (with_station set k) k ≡ true = has_with set k k (omega arith) ∙ or_right (has set k) (eqb k k) (eq-eqb k k refl) in
-      both_ways _ (ap (λ a. has a k) (outer.1 (with_station set k) w.1 inside) ∙ not-true _ w.0) here
+  with_one : (set k s : ℕ) → k < q.stations → has (with_station set k) s ≡ (has set s || eqb s k)
+  with_one set k s l = has_with set k s (omega (arith, laws.sized))
 
-  -- ---- quorums
+  without_one : (set k s : ℕ) → q.quorum set ≡ true → has (without_station set k) s ≡ (has set s && not (eqb s k))
+  without_one set k s ok = has_without set k s (omega (arith, family_below Quorums set ok, pow_mono {i = q.stations} {j = 16} laws.sized))
 
-  small : (set : ℕ) → Among n set → set < 2 ^ 16
-  small set mine = omega (arith, below_among n set mine, pow_mono {i = n} {j = 16} room)
+  -- a step leads to a set of the family beyond this one, which differs in that station
+  after_step : (family : Family) (set k : ℕ) → k < q.stations → family_of family q set ≡ true → steps family q set k ≡ true
+      → (b : ℕ) × (family_of family q b ≡ true) × Beyond family set b × (has b k ≡ not (has set k))
+  after_step Allowed set k l ok step =
+      let w = and_parts (not (has set k)) (q.allowed (with_station set k)) step in
+      (with_station set k, w.1, (λ s h. grind (arith, with_one set k s l)), grind (arith, nat_tests, with_one set k k l, w.0))
+  after_step Quorums set k l ok step =
+      let w = and_parts (has set k) (q.quorum (without_station set k)) step in
+      (without_station set k, w.1, (λ s h. grind (arith, without_one set k s ok)), grind (arith, nat_tests, without_one set k k ok, w.0))
 
-  pub smallest_from : OfStations n quorum → SupersetQuorum n quorum → (set : ℕ) → quorum set ≡ true
-      → ((k : ℕ) → k < n → shrinks quorum set k ≡ false) → Outermost Quorums allowed quorum set
-  smallest_from seated superset set ok none = (ok, λ b ok_b inside. same_by_inside b set inside (back b ok_b inside))
-    where
-      mine : Among n set
-      mine = seated set ok
+  -- a station in which a set of the family beyond this one differs gives a step
+  step_to : (family : Family) (set b k : ℕ) → family_of family q set ≡ true → family_of family q b ≡ true → Beyond family set b
+      → has b k ≡ not (has set k) → (k < q.stations) × (steps family q set k ≡ true)
+  step_to Allowed set b k ok ok_b beyond differs =
+      let l = laws.bounded b ok_b k (grind (arith, beyond k)) in
+      let still = laws.subset (with_station set k) b (λ s h. grind (arith, nat_tests, with_one set k s l, beyond s)) ok_b in
+      (l, grind (arith, still, beyond k))
+  step_to Quorums set b k ok ok_b beyond differs =
+      let around : Inside b (without_station set k) = λ s h. grind (arith, nat_tests, without_one set k s ok, beyond s) in
+      let mine : Among q.stations (without_station set k) = λ s h. laws.seated set ok s (grind (arith, without_one set k s ok)) in
+      let still = laws.superset b (without_station set k) around mine ok_b in
+      (laws.seated set ok k (grind (arith, beyond k)), grind (arith, still, beyond k))
 
-      less : (k s : ℕ) → has (without_station set k) s ≡ (has set s && not (eqb s k))
-      less k s = has_without set k s (small set mine)
+  pub outermost_from : (family : Family) (set : ℕ) → family_of family q set ≡ true
+      → ((k : ℕ) → k < q.stations → steps family q set k ≡ false) → Outermost family q set
+  outermost_from family set ok stuck = (
+    ok,
+    λ b ok_b beyond. same_members b set (λ k.
+        let same : has b k ≡ not (has set k) → ⊥ = λ e. let w = step_to family set b k ok ok_b beyond e in both_ways _ (stuck k w.0) w.1 in
+        grind (arith, same)),
+  )
 
-      back : (b : ℕ) → quorum b ≡ true → Inside b set → Inside set b
-      back b ok_b inside k member =
-          ⊎_elim (λ e. e)
-          (λ out.
-          let around : Inside b (without_station set k) = λ s h.
-          less k s ∙ and_from _ _ (inside s h) (not_from_false _ (ne_eqb s k (λ e. both_ways _ out (subst (λ u. has b u ≡ true) e h)))) in
-          let still = superset b (without_station set k) around (λ s h. mine s (and_parts (has set s) (not (eqb s k)) (sym (less k s) ∙ h)).0) ok_b in
-          absurd (both_ways _ (none k (mine k member)) (and_from (has set k) (quorum (without_station set k)) member still)))
-          (cases_Bool (has b k))
+  pub no_step : (family : Family) (set k : ℕ) → k < q.stations → Outermost family q set → steps family q set k ≡ false
+  no_step family set k l outer =
+      false_from_ne_true _ (λ step.
+      let w = after_step family set k l outer.0 step in
+      let same = outer.1 w.0 w.1 w.2 in
+      grind (arith, same, w.3))
 
-  pub not_smallest : (set k : ℕ) → OfStations n quorum → quorum set ≡ true → shrinks quorum set k ≡ true → Outermost Quorums allowed quorum set → ⊥
-  not_smallest set k seated ok shrunk outer =
-      let w = and_parts (has set k) (quorum (without_station set k)) shrunk in
-      let less : (s : ℕ) → has (without_station set k) s ≡ (has set s && not (eqb s k)) = λ s. has_without set k s (small set (seated set ok)) in
-      let inside : Inside (without_station set k) set = λ s h. (and_parts (has set s) (not (eqb s k)) (sym (less s) ∙ h)).0 in
-      let gone : has (without_station set k) k ≡ false = less k ∙ and_right (has set k) _ (not_from_true _ (eq-eqb k k refl)) in
-      both_ways _ gone (ap (λ a. has a k) (outer.1 (without_station set k) w.1 inside) ∙ w.0)
-
--- the members of a set of either family are stations
-pub family_among : (n : ℕ) (allowed quorum : ℕ → Bool) (which : Family) → OfStations n allowed → OfStations n quorum
-    → (set : ℕ) → family_of which allowed quorum set ≡ true → Among n set
-family_among n allowed quorum Allowed bounded seated = bounded
-family_among n allowed quorum Quorums bounded seated = seated
+  -- the program's test of a set of the family
+  pub stuck_decides : (family : Family) (set : ℕ) → family_of family q set ≡ true
+      → Decides (list_all (λ s. not (steps family q set s)) (range_with_len 0 q.stations)) (Outermost family q set)
+  stuck_decides family set ok =
+      Decides-like _ (λ stuck. outermost_from family set ok (λ k l. not-true _ (stuck k l)))
+      (λ outer k l. not_from_false _ (no_step family set k l outer))
+      (all_in_range q.stations (λ s. not (steps family q set s)))

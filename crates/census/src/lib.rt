@@ -1,10 +1,9 @@
 //! Surveys of a quorum system: its largest allowed sets, its smallest quorums, and how many of each kind there are.
 #![tactic(auto)]
 
-ghost use Rattle.std.specs.Prelude.{◌≡◌, ◌^◌, ◌≤◌, true, [], IfOk, vec_capacity, Decides};
+ghost use Rattle.std.specs.Prelude.{◌≡◌, ◌^◌, ◌≤◌, [], IfOk, vec_capacity, Decides};
 ghost use Rattle.station_set.specs.Below.{count_below};
-ghost use Rattle.census.specs.declared.Family.TheVariants.{Allowed, Quorums};
-ghost use Rattle.census.specs.Outermost.{family_of, grows, shrinks, Outermost, Exactly};
+ghost use Rattle.census.specs.Outermost.{family_of, steps, Outermost, Exactly};
 ghost use Rattle.census.specs.Surveyed.{Surveyed};
 
 use quorum::QuorumSystem;
@@ -27,7 +26,7 @@ pub struct Survey {
 }
 
 fn is_in<S: QuorumSystem>(system: &S, family: Family, set: u16) -> bool
-    ensures { result ≡ family_of family (S.QuorumSystem.allowed system.now) (S.QuorumSystem.quorum system.now) set }
+    ensures { result ≡ family_of family (S.families system.now) set }
 {
     match family {
         Family::Allowed => system.is_allowed(set),
@@ -35,62 +34,26 @@ fn is_in<S: QuorumSystem>(system: &S, family: Family, set: u16) -> bool
     }
 }
 
-// Whether station s is not in the set, and the set stays allowed with it.
-fn can_grow<S: QuorumSystem>(system: &S, set: u16, s: usize) -> bool
-    ensures { result ≡ grows (S.QuorumSystem.allowed system.now) set s }
-{
-    !contains(set, s) && system.is_allowed(insert(set, s))
-}
-
-// Whether station s is in the set, and the set stays a quorum without it.
-fn can_shrink<S: QuorumSystem>(system: &S, set: u16, s: usize) -> bool
-    ensures { result ≡ shrinks (S.QuorumSystem.quorum system.now) set s }
-{
-    contains(set, s) && system.is_quorum(remove(set, s))
-}
-
-// Whether the set is allowed and cannot grow by one station: then no other allowed set includes it.
-fn is_largest_allowed<S: QuorumSystem>(system: &S, set: u16) -> bool
-    ensures { Decides result (Outermost Allowed (S.QuorumSystem.allowed system.now) (S.QuorumSystem.quorum system.now) set) }
-{
-    if !system.is_allowed(set) {
-        return false;
-    }
-    for s in 0..system.size() {
-        if can_grow(system, set, s) {
-            return false;
-        }
-    }
-    true
-}
-
-// Whether the set is a quorum and cannot shrink by one station: then it includes no other quorum.
-fn is_smallest_quorum<S: QuorumSystem>(system: &S, set: u16) -> bool
-    ensures { Decides result (Outermost Quorums (S.QuorumSystem.allowed system.now) (S.QuorumSystem.quorum system.now) set) }
-{
-    if !system.is_quorum(set) {
-        return false;
-    }
-    for s in 0..system.size() {
-        if can_shrink(system, set, s) {
-            return false;
-        }
-    }
-    true
-}
-
-fn is_outermost<S: QuorumSystem>(system: &S, family: Family, set: u16) -> bool
-    ensures { Decides result (Outermost family (S.QuorumSystem.allowed system.now) (S.QuorumSystem.quorum system.now) set) }
+// Whether a step of one station stays in the family: an allowed set grows by station s, or a quorum shrinks by it.
+fn can_step<S: QuorumSystem>(system: &S, family: Family, set: u16, s: usize) -> bool
+    ensures { result ≡ steps family (S.families system.now) set s }
 {
     match family {
-        Family::Allowed => is_largest_allowed(system, set),
-        Family::Quorums => is_smallest_quorum(system, set),
+        Family::Allowed => !contains(set, s) && system.is_allowed(insert(set, s)),
+        Family::Quorums => contains(set, s) && system.is_quorum(remove(set, s)),
     }
+}
+
+// Whether the set is in the family and no step stays there: then no other set of the family goes beyond it.
+fn is_outermost<S: QuorumSystem>(system: &S, family: Family, set: u16) -> bool
+    ensures { Decides result (Outermost family (S.families system.now) set) }
+{
+    is_in(system, family, set) && (0..system.size()).all(|s| !can_step(system, family, set, s))
 }
 
 // How many sets of stations there are: their masks are the numbers below this.
 fn count_masks<S: QuorumSystem>(system: &S) -> u32
-    ensures value { result ≡ 2 ^ S.QuorumSystem.stations system.now }
+    ensures value { result ≡ 2 ^ (S.families system.now).stations }
     ensures bound { result ≤ 65536 }
 {
     1 << system.size()
@@ -98,8 +61,9 @@ fn count_masks<S: QuorumSystem>(system: &S) -> u32
 
 // Lists the largest allowed sets, or the smallest quorums, by rising masks. It cannot fail, since there is room for every set of stations.
 fn list_outermost<S: QuorumSystem>(system: &S, family: Family, sets: &mut Vec<u16>)
-    requires { (sets.old.items ≡ []) × (2 ^ S.QuorumSystem.stations system.now ≤ vec_capacity sets.old) }
-    ensures { Exactly (Outermost family (S.QuorumSystem.allowed system.now) (S.QuorumSystem.quorum system.now)) sets.new.items }
+    requires empty { sets.old.items ≡ [] }
+    requires room { 2 ^ (S.families system.now).stations ≤ vec_capacity sets.old }
+    ensures { Exactly (Outermost family (S.families system.now)) sets.new.items }
 {
     for mask in 0..count_masks(system) {
         let set = mask as u16;
@@ -115,7 +79,7 @@ pub fn outermost<S: QuorumSystem>(
     system: &S,
     family: Family,
 ) -> Result<Vec<u16>, AllocError>
-    ensures { IfOk result (λ sets. Exactly (Outermost family (S.QuorumSystem.allowed system.now) (S.QuorumSystem.quorum system.now)) sets.items) }
+    ensures { IfOk result (λ sets. Exactly (Outermost family (S.families system.now)) sets.items) }
 {
     let mut sets = Vec::with_capacity(heap, count_masks(system) as usize)?;
     list_outermost(system, family, &mut sets);
@@ -124,20 +88,16 @@ pub fn outermost<S: QuorumSystem>(
 
 // How many sets the family has.
 pub fn count_sets<S: QuorumSystem>(system: &S, family: Family) -> u32
-    ensures { result ≡ count_below (2 ^ S.QuorumSystem.stations system.now) (family_of family (S.QuorumSystem.allowed system.now) (S.QuorumSystem.quorum system.now)) }
+    ensures { result ≡ count_below (2 ^ (S.families system.now).stations) (family_of family (S.families system.now)) }
 {
-    let mut count = 0;
-    for mask in 0..count_masks(system) {
-        if is_in(system, family, mask as u16) {
-            count += 1;
-        }
-    }
-    count
+    (0..count_masks(system))
+        .filter(|mask| is_in(system, family, *mask as u16))
+        .count() as u32
 }
 
 impl Survey {
     pub fn of<S: QuorumSystem>(heap: Global, system: &S) -> Result<Survey, AllocError>
-        ensures { IfOk result (Surveyed (S.QuorumSystem.stations system.now) (S.QuorumSystem.allowed system.now) (S.QuorumSystem.quorum system.now)) }
+        ensures { IfOk result (Surveyed (S.families system.now)) }
     {
         let largest_allowed = outermost(heap, system, Family::Allowed)?;
         let smallest_quorums = outermost(heap, system, Family::Quorums)?;

@@ -1,22 +1,18 @@
-use Rattle.std.proofs.Common.{◌+◌, sym, ap, ◌∙◌, arith}
-use Rattle.station_set.proofs.Below.{count_none, count_more_yes, count_more_no}
+use Rattle.std.proofs.Common.{rules, tests, refl, ap, ◌∙◌, arith}
+use Rattle.std.specs.List.{range_with_len}
+use Rattle.std.proofs.lemmas.Iterator.{YieldsList-from_range}
+use Rattle.std.proofs.lemmas.Iterator.Consumers.{YieldsList-at, YieldsList-from_filter, count_from_yields_List}
+use Rattle.std.proofs.lemmas.List.Sums.{length-filter}
+use Rattle.station_set.proofs.Below.{count_by_range}
+use Rattle.station_set.specs.Below.{count_below}
 use Rattle.census.specs.Outermost.{family_of}
 use Rattle.census.proofs.count_sets.Goals as goal
-use Rattle.census.proofs.count_sets.Goals.{then-is_in, else-is_in}
 
-pub loop-mask-init : goal.loop-mask-init
-loop-mask-init g c = (sym (count_none _), omega arith)
-
-pub loop-mask-preserved : goal.loop-mask-preserved
-loop-mask-preserved g c =
-    let q = c.args.system.now in
-    let family = family_of c.args.family (g.S.QuorumSystem.allowed q) (g.S.QuorumSystem.quorum q) in
-    let k = c.loop-mask.mask in
-    elim c.if-is_in.branch [
-      | then-is_in w ↦
-          let more = count_more_yes k family (sym c.is_in.ensures ∙ w.if-is_in.true) in
-          (w.count-is ∙ ap (λ n. n + 1) c.loop-mask.invariant.0 ∙ sym more, omega (arith, w.count-is))
-      | else-is_in w ↦
-          let more = count_more_no k family (sym c.is_in.ensures ∙ w.if-is_in.false) in
-          (w.count-is ∙ c.loop-mask.invariant.0 ∙ sym more, omega (arith, w.count-is))
-    ]
+pub returns : goal.returns
+returns g c =
+    let q = g.S.QuorumSystem.families c.args.system.now in
+    let family = family_of c.args.family q in
+    let n = c.count_masks.result in
+    count_from_yields_List c.filter.result _ c.count.ensures.ran
+    (YieldsList-from_filter _ family (YieldsList-at c.filter.ensures.source (YieldsList-from_range 0 n n refl (omega arith))) c.filter.ensures.closure (λ x b q k. search (rules, tests)))
+    ∙ length-filter family (range_with_len 0 n) ∙ count_by_range n family ∙ ap (λ k. count_below k family) c.count_masks.ensures.value
