@@ -1,10 +1,10 @@
 -- The laws of a quorum system, of the sets with few and with many members.
 use Rattle.std.proofs.Common.{sym, subst, arith}
 use Rattle.std.specs.Prelude.{ℕ, ◌-◌, ◌*◌, ◌<◌, ◌≤◌, not, ◌&&◌, ◌||◌, Decides, nat_le}
-use Rattle.std.proofs.lemmas.Bool.{both_ways, leb-true, le-leb}
+use Rattle.std.proofs.lemmas.Bool.{false_from_ne_true, both_ways, leb-true, le-leb}
 use Rattle.station_set.specs.Below.{count_below}
 use Rattle.station_set.specs.Sets.{has, among, common, missing, members}
-use Rattle.station_set.proofs.Below.{false_if_not, count_le, count_no, count_mono, count_same, count_both_either, count_opposite}
+use Rattle.station_set.proofs.Below.{count_le, count_no, count_mono, count_same, count_both_either, count_opposite}
 use Rattle.station_set.proofs.Members.{among_and, has_none, has-common, has_missing_below, missing-among, members_below}
 use Rattle.quorum.specs.Laws.{OfStations, EmptyAllowed, SubsetAllowed, SupersetQuorum, OverlapNotAllowed, OutsideQuorum}
 use Rattle.quorum.specs.CountingSets.{at_most, all_but, by_count, AtMost, AllBut}
@@ -47,7 +47,7 @@ module _ (n t : ℕ) where
   counting_overlap few a b ea eb =
       let wa = (all_but_words a).0 ea in
       let wb = (all_but_words b).0 eb in
-      false_if_not _ (λ e.
+      false_from_ne_true _ (λ e.
       let w = (at_most_words (common a b)).0 e in
       omega (
         arith,

@@ -3,10 +3,10 @@ use Rattle.std.specs.Prelude.{◌≡◌, ℕ, ◌<◌, ◌≤◌, Bool, true, fa
 use Rattle.std.proofs.Math.Path.{refl}
 use Rattle.std.proofs.Common.{sym, ap, ◌∙◌, inl, inr, ⊎_elim}
 use native.Mathlib.Omega.{arith}
-use Rattle.std.proofs.lemmas.Bool.{cases_lt, both_ways, eqb-true, eq-eqb, and_from, not-true, not_from_false}
+use Rattle.std.proofs.lemmas.Bool.{false_from_ne_true, cases_lt, both_ways, eqb-true, eq-eqb, and_from, not-true, not_from_false}
 use Rattle.std.proofs.lemmas.Bool.Decides.{Decides-and, Decides-like}
 use Rattle.station_set.specs.Sets.{has, Inside, Among, among, common, missing}
-use Rattle.station_set.proofs.Below.{false_if_not, all_below_decides, any_below_decides, search_below, count_top}
+use Rattle.station_set.proofs.Below.{all_below_decides, any_below_decides, search_below, count_top}
 use Rattle.station_set.proofs.Members.{among_and, among_decides, same_members, has_none, has-common, has_missing_below, missing-among}
 use Rattle.quorum.specs.Laws.{OfStations, EmptyAllowed, SubsetAllowed, SupersetQuorum, OverlapNotAllowed, OutsideQuorum}
 use Rattle.quorum.specs.SiteSets.{site_of, share_site, one_site, lacks_one_site, by_site, OneSite, LacksOneSite, occurs, sites_occurring}
@@ -54,7 +54,7 @@ module _ (sites : List ℕ) (n : ℕ) (room : n ≤ 16) where
       to w = (
         w.0,
         ⊎_elim (λ found. inr (site_of sites found.0, λ s hs. w.1 s found.0 hs found.2))
-            (λ none. inl (λ s. false_if_not (has set s) (λ hs. both_ways _ (none s (w.0 s hs)) hs)))
+            (λ none. inl (λ s. false_from_ne_true (has set s) (λ hs. both_ways _ (none s (w.0 s hs)) hs)))
             (search_below n (has set)),
       )
 
@@ -88,7 +88,7 @@ module _ (sites : List ℕ) (n : ℕ) (room : n ≤ 16) where
   missing_inside a b inside s member =
       let l = missing-among n b room s member in
       let outside : has b s ≡ false = not-true _ (sym (has_missing_below n b s room l) ∙ member) in
-      has_missing_below n a s room l ∙ not_from_false _ (false_if_not _ (λ h. both_ways _ outside (inside s h)))
+      has_missing_below n a s room l ∙ not_from_false _ (false_from_ne_true _ (λ h. both_ways _ outside (inside s h)))
 
   pub sites_superset : SupersetQuorum (by_site sites n)
   sites_superset a b inside mine e =
@@ -108,8 +108,8 @@ module _ (sites : List ℕ) (n : ℕ) (room : n ≤ 16) where
 
       outer : (s : ℕ) → n ≤ s → has (missing n (missing n a)) s ≡ has a s
       outer s g =
-          false_if_not _ (λ h. let l = missing-among n (missing n a) room s h in omega arith)
-          ∙ sym (false_if_not _ (λ h. let l = mine s h in omega arith))
+          false_from_ne_true _ (λ h. let l = missing-among n (missing n a) room s h in omega arith)
+          ∙ sym (false_from_ne_true _ (λ h. let l = mine s h in omega arith))
 
       at : (s : ℕ) → has (missing n (missing n a)) s ≡ has a s
       at s = ⊎_elim (inner s) (outer s) (cases_lt s n)
@@ -195,4 +195,4 @@ module _ (sites : List ℕ) (n : ℕ) (room : n ≤ 16) where
         (apart s.0 r.0 fs fr s.1)
 
   pub sites_overlap : 4 ≤ sites_occurring sites n → OverlapNotAllowed (by_site sites n)
-  sites_overlap four a b qa qb = false_if_not _ (λ shared. no_shared_site a b qa qb shared four)
+  sites_overlap four a b qa qb = false_from_ne_true _ (λ shared. no_shared_site a b qa qb shared four)

@@ -10,8 +10,8 @@ ghost use Rattle.quorum.specs.SiteLaws.{sites_bounded, sites_seated, sites_empty
 
 use crate::unfit::Unfit;
 use crate::{MOST_STATIONS, QuorumSystem};
-use std::array;
 use station_set::{contains, is_among, missing};
+use std::array;
 
 // Site numbers are 0 to 9.
 const SITES: u64 = 10;

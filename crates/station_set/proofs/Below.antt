@@ -5,10 +5,6 @@ use Rattle.std.proofs.lemmas.Bool.{cases_Bool, both_ways, cond_both, cond-true, 
 use Rattle.std.proofs.lemmas.Bool.Decides.{Decides-below_and, Decides-below_or}
 use Rattle.station_set.specs.Below.{all_below, any_below, count_below}
 
--- a test that nothing can pass fails
-pub false_if_not : (b : Bool) → (b ≡ true → ⊥) → b ≡ false
-false_if_not b h = ⊎_elim (λ e. absurd (h e)) (λ e. e) (cases_Bool b)
-
 pub all_below_decides : (n : ℕ) (p : ℕ → Bool) → Decides (all_below n p) ((s : ℕ) → s < n → p s ≡ true)
 unfolding all_below
 all_below_decides n p = Decides-below_and p (λ s. p s ≡ true) (λ k. all_below k p) (λ s. ((λ e. e), (λ e. e))) refl (λ _. refl) n
