@@ -10,7 +10,8 @@ use quorum::QuorumSystem;
 use station_set::{contains, insert, remove};
 use std::alloc::{AllocError, Global};
 
-// The two families of a quorum system.
+// The two families of a quorum system. There are these two and no others, so a `match` shows all that can be asked, which
+// a closure in its place would not.
 #[derive(Clone, Copy, PartialEq, Eq, Debug)]
 pub enum Family {
     Allowed,
@@ -65,6 +66,8 @@ fn list_outermost<S: QuorumSystem>(system: &S, family: Family, sets: &mut Vec<u1
     requires room { 2 ^ (S.families system.now).stations ≤ vec_capacity sets.old }
     ensures { Exactly (Outermost family (S.families system.now)) sets.new.items }
 {
+    // A `for` over the range filtered by `is_outermost` was tried: this kit makes no proof of one whose closure asks a generic
+    // system.
     for mask in 0..count_masks(system) {
         let set = mask as u16;
         if is_outermost(system, family, set) {

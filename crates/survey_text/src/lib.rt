@@ -67,6 +67,7 @@ pub fn answer(heap: Global, words: &[String]) -> Result<String, AllocError>
     match read_request(heap, words) {
         Ok(request) => answer_request(heap, &request),
         Err(ArgumentError::Unreadable) => String::from_str(heap, USAGE),
+        // `?` cannot do this: the error's other case is no error here.
         Err(ArgumentError::NoMemory) => Err(AllocError),
     }
 }
