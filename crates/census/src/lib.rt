@@ -18,7 +18,7 @@ pub enum Family {
     Quorums,
 }
 
-#[derive(Drop)]
+#[derive(PartialEq, Eq, Debug, Drop)]
 pub struct Survey {
     pub largest_allowed: Vec<u16>,
     pub smallest_quorums: Vec<u16>,
