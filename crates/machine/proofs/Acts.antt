@@ -1,9 +1,10 @@
 -- Each call is a chain of small acts, each under its guard. Stations outside a given set may do anything:
 -- all that they do is one act, which leaves the tables of the others alone.
 use Rattle.std.proofs.Common.{◌≡◌, ℕ, suc, ◌<◌, ◌≤◌, max, Bool, true, false, cond, not, ◌&&◌, eqb, ltb, leb, ◌⊎◌, List, [], ◌∷◌, Some, None, Option, sym, refl, ap, ◌∙◌, inl, inr, ⊎_elim, arith}
-use Rattle.std.specs.List.{remove as removed, AllByRecursion as All, slice_get}
+use Rattle.std.specs.List.{remove as removed, All, slice_get}
 use Rattle.std.proofs.lemmas.Bool.{cond_both, and_parts, and_cases, not-true, not-false, leb-true, leb-false, ltb-false, eqb-true, cases_Bool, both_ways}
 use Rattle.std.proofs.lemmas.Bool.Decides.{nat_tests}
+use Rattle.std.proofs.lemmas.List.Elements.{All-nil, All-cons, All-weaker}
 use Rattle.decline.specs.declared.Decline.{Decline}
 use Rattle.station_set.specs.Sets.{has, Inside, with_station}
 use Rattle.machine.specs.declared.message.Message.{Message}
@@ -19,7 +20,7 @@ use Rattle.machine.specs.State.{Setting, Cell, State, number, is_faulty, put_tri
 use Rattle.machine.specs.Operations.{Outcome, leaves, fresh_reports, start_catching, freshness_at, write_done_at, keep_report, state_at, catch_up_done_at}
 use Rattle.machine.specs.Publishing.{mark_readied, vote_echo, vote_ready, echo_voters, ready_voters, send_echo, send_ready, take_value, on_init, is_none, count_echoes, on_echo, join_readies, count_readies, on_ready}
 use Rattle.machine.specs.Calls.{sender, receiver, ahead, unless_old, act, unless, is_idle, first_that_fits, write_reasons, write_decline, begin_write, read_reasons, read_decline, begin_read, receive_reasons, receive_decline, take_decline, receive, forged, forge_reasons, forge_decline, join_forged, withdraw_decline, step}
-use Rattle.machine.proofs.Tables.{put_pair_same, is_absent}
+use Rattle.machine.proofs.Tables.{put_pair_same, is_absent, all_nth, all_one}
 use Rattle.machine.proofs.Pools.{Swap, swap_removed}
 use Rattle.machine.proofs.Only.{Only, only_write, only_read, About, own_act}
 
@@ -298,8 +299,7 @@ module _ {V : Type 0} (c : Setting V) (f : ℕ) where
   act_chain p s (CatchUpDone k i j x) e h a = caught_chain p i k j x s (s.station i).stage refl h e
 
   sent_by : (i : ℕ) → has f i ≡ true → (l : List (Message V)) → All (λ m. sender m ≡ i) l → All (λ m. has f (sender m) ≡ true) l
-  sent_by i h [] a = tt
-  sent_by i h (m ∷ l) a = (ap (has f) a.0 ∙ h, sent_by i h l a.1)
+  sent_by i h l a = All-weaker (λ m. sender m ≡ i) (λ m. has f (sender m) ≡ true) (λ m e. ap (has f) e ∙ h) l a
 
   -- what a station outside does changes nothing of a station inside
   outside : (i : ℕ) → has f i ≡ true → (s t : State V) → Only i s t → Foreign s t
@@ -324,7 +324,7 @@ module _ {V : Type 0} (c : Setting V) (f : ℕ) where
         reads_same = λ a b _. refl;
         reports_same = λ a _. refl;
         held_same = λ a k b _. refl;
-        pool_change = swap_removed _ _ s.pool p m e h;
+        pool_change = swap_removed (λ m. has f (sender m) ≡ true) _ s.pool p m e h;
       }
 
   -- a message leaves, and its receiver acts
@@ -358,13 +358,18 @@ module _ {V : Type 0} (c : Setting V) (f : ℕ) where
   correct_inside s w i h = ⊎_elim (λ e. absurd (both_ways _ h (w.1 i e))) (λ e. e) (cases_Bool (is_faulty s i))
 
   -- where no reason fits, each is false
-  pub none_fits : (l : List (Bool × Decline)) → first_that_fits l ≡ None → All (λ reason. reason.0 ≡ false) l
-  none_fits [] e = tt
-  none_fits (reason ∷ l) e = let w = pass reason.0 (first_that_fits l) reason.1 e in (w.0, none_fits l w.1)
+  none_fits : (l : List (Bool × Decline)) → first_that_fits l ≡ None → All (λ reason. reason.0 ≡ false) l
+  none_fits [] e = All-nil (λ reason. reason.0 ≡ false)
+  none_fits (reason ∷ l) e =
+      let w = pass reason.0 (first_that_fits l) reason.1 e in All-cons (λ reason. reason.0 ≡ false) reason l w.0 (none_fits l w.1)
     where
       pass : (t : Bool) (o : Option Decline) (d : Decline) → cond t (Some d) o ≡ None → (t ≡ false) × (o ≡ None)
       pass true o d e = absurd (let z : ◌≡◌ {A = ℕ} 0 1 = cc in omega arith)
       pass false o d e = (refl, e)
+
+  -- the reason at a place is false
+  pub unfit : (l : List (Bool × Decline)) → first_that_fits l ≡ None → (p : ℕ) (reason : Bool × Decline) → slice_get l p ≡ Some reason → reason.0 ≡ false
+  unfit l e p reason at = all_nth (λ reason. reason.0 ≡ false) l p reason (none_fits l e) at
 
   pass_not : (t : Bool) (o : Option Decline) (d : Decline) → cond t o (Some d) ≡ None → (t ≡ true) × (o ≡ None)
   pass_not true o d e = (refl, e)
@@ -395,7 +400,7 @@ module _ {V : Type 0} (c : Setting V) (f : ℕ) where
       in' k =
           cond_both (is_faulty s (receiver m)) _ _ (Went s)
           (λ q. absurd (both_ways _ (correct_inside s w (receiver m) k) q))
-          (λ q. act_chain p s m e k (none_fits (receive_reasons s m) (trim (is_faulty s (receiver m)) _ q h)).0)
+          (λ q. act_chain p s m e k (unfit (receive_reasons s m) (trim (is_faulty s (receiver m)) _ q h) 0 _ refl))
         where
           trim : (b : Bool) (o : Option Decline) → b ≡ false → cond b None o ≡ None → o ≡ None
           trim b o q g = grind arith
@@ -426,14 +431,14 @@ module _ {V : Type 0} (c : Setting V) (f : ℕ) where
         reads_same = λ a b _. refl;
         reports_same = λ a _. refl;
         held_same = λ a k b _. refl;
-        pool_change = (s.pool, m ∷ [], refl, (h, tt), inl refl);
+        pool_change = (s.pool, m ∷ [], refl, all_one (λ m. has f (sender m) ≡ true) m h, inl refl);
       }
 
   forge_went : (s : State V) → Fits s → (g : Forgery V) (o : Option (Message V)) → FromSender g.sender o → forge_decline s g o ≡ None
       → Went s (leaves (join_forged o s))
   forge_went s w g None nobody e = quietly stay tt
   forge_went s w g (Some m) (from _ q) e =
-      let h = not-false _ (none_fits (forge_reasons s g (Some m)) e).1.1.0 in
+      let h = not-false _ (unfit (forge_reasons s g (Some m)) e 2 _ refl) in
       quietly (one (Elsewhere (send (m ∷ []) s)) s tt (forged_foreign s m (ap (has f) q ∙ w.1 _ h))) tt
 
   withdraw_went : (p : ℕ) (s : State V) → Fits s → (o : Option (Message V)) → slice_get s.pool p ≡ o → withdraw_decline s o ≡ None → Went s (leaves (remove p s))
@@ -467,10 +472,10 @@ module _ {V : Type 0} (c : Setting V) (f : ℕ) where
     asked : (i j : ℕ) → read_decline s i j ≡ None → Guard (StartRead i j) s → Stepped s (BeginRead i j) (leaves (begin_read i j s))
 
   pub write_idle : (s : State V) (i : ℕ) → write_decline s i ≡ None → (s.station i).stage ≡ Idle
-  write_idle s i e = idle_is _ (not-false _ (none_fits (write_reasons s i) e).1.1.0)
+  write_idle s i e = idle_is _ (not-false _ (unfit (write_reasons s i) e 2 _ refl))
 
   pub read_idle : (s : State V) (i j : ℕ) → read_decline s i j ≡ None → (s.station i).stage ≡ Idle
-  read_idle s i j e = idle_is _ (not-false _ (none_fits (read_reasons s i j) e).1.1.0)
+  read_idle s i j e = idle_is _ (not-false _ (unfit (read_reasons s i j) e 2 _ refl))
 
   pub stepped : (s : State V) → Fits s → (call : Call V) → Stepped s call (step c s call)
   stepped s w (Open o) = went (quietly stay tt)

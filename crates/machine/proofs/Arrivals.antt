@@ -2,6 +2,7 @@
 use Rattle.std.proofs.Common.{◌≡◌, ℕ, suc, ◌<◌, ◌≤◌, true, ◌⊎◌, List, [], ◌++◌, Some, Option, sym, refl, ap, ◌∙◌, subst, inl, inr, ⊎_elim, append-nil, arith}
 use Rattle.std.specs.List.{remove as removed, slice_get}
 use Rattle.std.proofs.lemmas.Bool.{both_ways}
+use Rattle.station_set.specs.Sets.{has}
 use Rattle.machine.specs.declared.message.Message.{Message}
 use Rattle.machine.specs.declared.message.Message.TheVariants.{Init, Echo, Ready, WriteDone, Read, State as StateOf, CatchUp, CatchUpDone}
 use Rattle.machine.specs.State.{Setting, Lawful, Cell, State, number, put, put_pair, remove, to_all, fresh_cell}
@@ -12,7 +13,7 @@ use Rattle.machine.proofs.Tables.{put_same, put_grows, put_pair_all, put_pair_sa
 use Rattle.machine.proofs.Pools.{swap_mem}
 use Rattle.machine.proofs.Acts.{Act, Elsewhere, Drop, StartWrite, StartRead, SendEcho, GotEcho, GotReady, SendReady, TakeValue, GotReport, Freshen, GotDone, EndWrite, GotCaught, EndRead, Report, AnswerNow, Hold}
 use Rattle.machine.proofs.Acts.{In, apply, Guard, Foreign, Spent}
-use Rattle.machine.proofs.Frames.{Casting, Asks, asks_begin_read, asks_got_report, asks_freshen, asks_got_done, asks_end_write, asks_got_caught, asks_end_read, asks_report, asks_answer, asks_hold, kinds_apart}
+use Rattle.machine.proofs.Frames.{Casting, Asking, Asks, asks_begin_read, asks_got_report, asks_freshen, asks_got_done, asks_end_write, asks_got_caught, asks_end_read, asks_report, asks_answer, asks_hold, kinds_apart}
 use Rattle.machine.proofs.History.{History, no_history, note}
 use Rattle.machine.proofs.Voices.{Truthful, Honest}
 
@@ -85,12 +86,12 @@ module _ {V : Type 0} (c : Setting V) (L : Lawful c) (f : ℕ) (ok : c.system.al
 
     by_foreign : (t : State V) → Foreign c f s t → Goes_on s t
     by_foreign t w m cast e q (inl p) =
-        inl (swap_mem _ _ s.pool t.pool w.pool_change m (λ d. ⊎_elim (λ x. both_ways _ e x) (λ x. both_ways _ q x) d) p)
+        inl (swap_mem (λ m. has f (sender m) ≡ true) _ s.pool t.pool w.pool_change m (λ d. ⊎_elim (λ x. both_ways _ e x) (λ x. both_ways _ q x) d) p)
     by_foreign t w m cast e q (inr p) =
         inr (heeded_on s t (λ i j u. subst (Moves (s.cell i j)) (sym (w.cell_same i j u)) (moves_none (s.cell i j))) m q p)
 
     by_asks : (t : State V) → Asks c f s t → Goes_on s t
-    by_asks t w m cast e q (inl p) = inl (swap_mem _ _ s.pool t.pool w.pool_change m (kinds_apart m cast) p)
+    by_asks t w m cast e q (inl p) = inl (swap_mem Asking _ s.pool t.pool w.pool_change m (kinds_apart m cast) p)
     by_asks t w m cast e q (inr p) =
         inr (heeded_on s t (λ i j u. subst (Moves (s.cell i j)) (sym (w.cell_same i j)) (moves_none (s.cell i j))) m q p)
 

@@ -1,7 +1,8 @@
 -- A bench is at rest exactly when count finds nothing to take between correct stations.
 use Rattle.std.proofs.Common.{◌≡◌, ℕ, suc, ◌+◌, Bool, true, false, cond, not, List, [], ◌∷◌, Some, count_by, sym, refl, ap, ◌∙◌, ⊎_elim, arith}
-use Rattle.std.specs.List.{AllByRecursion as All, slice_get}
+use Rattle.std.specs.List.{All, slice_get}
 use Rattle.std.proofs.lemmas.Bool.{both_ways, and_cases, and_left, and_right, cases_Bool, eqb-true, eq-eqb, not-false, not_from_true}
+use Rattle.std.proofs.lemmas.List.Elements.{All-nil, All-cons}
 use Rattle.std.proofs.lemmas.List.Sums.{sum_by-cons}
 use Rattle.machine.specs.Calls.{ahead, between_correct, takeable}
 use Rattle.machine.specs.Runs.{RestByCount}
@@ -12,9 +13,9 @@ one_of true n e = absurd (omega arith)
 one_of false n e = (refl, omega arith)
 
 none_counted : {A : Type 0} (t : A → Bool) (l : List A) → count_by t l ≡ 0 → All (λ m. t m ≡ false) l
-none_counted t [] e = tt
+none_counted t [] e = All-nil (λ m. t m ≡ false)
 none_counted t (m ∷ l) e =
-    let w = one_of (t m) (count_by t l) (sym (sum_by-cons (λ x. cond (t x) 1 0) m l) ∙ e) in (w.0, none_counted t l w.1)
+    let w = one_of (t m) (count_by t l) (sym (sum_by-cons (λ x. cond (t x) 1 0) m l) ∙ e) in All-cons (λ m. t m ≡ false) m l w.0 (none_counted t l w.1)
 
 count_none : {A : Type 0} (t : A → Bool) (l : List A) → ((p : ℕ) (m : A) → slice_get l p ≡ Some m → t m ≡ false) → count_by t l ≡ 0
 count_none t [] h = refl

@@ -4,7 +4,7 @@ use Rattle.machine.specs.declared.message.Message.{Message}
 use Rattle.machine.specs.declared.message.Message.TheVariants.{Init, Echo, Ready, WriteDone, Read, State as StateOf, CatchUp, CatchUpDone}
 use Rattle.machine.specs.State.{Setting, Cell, State, number, put_pair, remove}
 use Rattle.machine.specs.Publishing.{mark_echoed, mark_readied, vote_echo, vote_ready}
-use Rattle.machine.proofs.Tables.{put_pair_all, all_to_all}
+use Rattle.machine.proofs.Tables.{put_pair_all, all_one, all_to_all}
 use Rattle.machine.proofs.Pools.{Swap, swap_new, swap_removed, swap_both}
 use Rattle.machine.proofs.Acts.{StartRead, SendEcho, GotEcho, GotReady, SendReady, GotReport, Freshen, GotDone, EndWrite, GotCaught, EndRead, Report, AnswerNow, Hold}
 use Rattle.machine.proofs.Acts.{apply, Guard, At}
@@ -145,11 +145,11 @@ module _ {V : Type 0} (c : Setting V) (f : ℕ) where
 
   pub asks_report : (p i k j r : ℕ) (s : State V) → Guard c f (Report p i k j r) s → Asks s (apply c f (Report p i k j r) s)
   asks_report p i k j r s gd =
-      asks s (apply c f (Report p i k j r) s) refl refl (λ a. refl) (swap_both Asking Asking s.pool _ p _ gd.1 tt (tt, tt))
+      asks s (apply c f (Report p i k j r) s) refl refl (λ a. refl) (swap_both Asking Asking s.pool _ p _ gd.1 tt (all_one Asking _ tt))
 
   pub asks_answer : (p i k j x : ℕ) (s : State V) → Guard c f (AnswerNow p i k j x) s → Asks s (apply c f (AnswerNow p i k j x) s)
   asks_answer p i k j x s gd =
-      asks s (apply c f (AnswerNow p i k j x) s) refl refl (λ a. refl) (swap_both Asking Asking s.pool _ p _ gd.1 tt (tt, tt))
+      asks s (apply c f (AnswerNow p i k j x) s) refl refl (λ a. refl) (swap_both Asking Asking s.pool _ p _ gd.1 tt (all_one Asking _ tt))
 
   pub asks_hold : (p i k j x : ℕ) (s : State V) → Guard c f (Hold p i k j x) s → Asks s (apply c f (Hold p i k j x) s)
   asks_hold p i k j x s gd =

@@ -1,9 +1,9 @@
 -- One reading: what it notes is not below what was settled when it began.
 use Rattle.std.proofs.Common.{◌≡◌, ℕ, suc, ◌≤◌, true, false, sym, refl, ap, ◌∙◌, subst, ⊎_elim, arith}
 use mathlib.Core.Path.{fun_ext}
-use Rattle.std.specs.List.{remove, AllByRecursion as All}
+use Rattle.std.specs.List.{remove, All}
 use Rattle.std.proofs.lemmas.Bool.{both_ways}
-use Rattle.std.proofs.ByRecursion.{All-append, All-map, All-push, All-weaker}
+use Rattle.std.proofs.lemmas.List.Elements.{All-append, All-push, All-weaker}
 use Rattle.station_set.specs.Sets.{has, with_station}
 use Rattle.station_set.proofs.Members.{has_none}
 use Rattle.machine.specs.declared.message.Message.{Message}
@@ -14,7 +14,7 @@ use Rattle.machine.specs.declared.station.Station.{Station}
 use Rattle.machine.specs.State.{Setting, Lawful, State, number, put, put_pair}
 use Rattle.machine.specs.Operations.{fresh_reports}
 use Rattle.machine.specs.Calls.{sender}
-use Rattle.machine.proofs.Tables.{put_all, put_else, put_same, put_pair_all, put_pair_else, put_pair_other, put_pair_same, all_nth, all_removed, all_of, all_to_all}
+use Rattle.machine.proofs.Tables.{put_all, put_else, put_same, put_pair_all, put_pair_else, put_pair_other, put_pair_same, all_nth, all_removed, all_to_all, all_and_each}
 use Rattle.machine.proofs.Pools.{swap_all}
 use Rattle.machine.proofs.Quorums.{joins, share, fresh_said}
 use Rattle.machine.proofs.Acts.{Act, Elsewhere, Drop, StartWrite, StartRead, SendEcho, GotEcho, GotReady, SendReady, TakeValue, GotReport, Freshen, GotDone, EndWrite, GotCaught, EndRead, Report, AnswerNow, Hold}
@@ -174,7 +174,7 @@ module _ {V : Type 0} (c : Setting V) (L : Lawful c) (f : ℕ) (ok : c.system.al
       act_fresh (SendReady a b v) gd = by_casts _ _ (casts_send_ready c f a b v s) (lt (SendReady a b v) gd)
       act_fresh (TakeValue a b v) gd =
           same (apply c f (TakeValue a b v) s) (note c f v₀ (TakeValue a b v) s h) (lt (TakeValue a b v) gd) refl refl refl
-          (All-append FreshMessage s.pool _ A.messages (tt, All-map FreshMessage (λ k. CatchUpDone a k b (suc (number s a b))) _ (all_of (λ k. Unit {0}) _ (λ k. tt))))
+          (All-append FreshMessage s.pool _ A.messages (all_and_each FreshMessage _ (λ k. CatchUpDone a k b (suc (number s a b))) _ tt (λ k. tt)))
       act_fresh (GotReport p a k b r' x reported) gd =
           turned a (Querying b r' (with_station reported k)) (apply c f (GotReport p a k b r' x reported) s) (λ d. refl)
           (λ ne. fun_ext (λ n. put_pair_other s.reports a k x i n (λ q. ne q.0))) refl (lt (GotReport p a k b r' x reported) gd)

@@ -1,9 +1,9 @@
 -- The order of a register, as a list: for each number from 0 on the write of that number, then the completed reads
 -- that returned it, as they ended. No sorting is needed.
-use Rattle.std.proofs.Common.{◌≡◌, ℕ, zero, suc, ◌<◌, ◌≤◌, true, false, cond, not, ◌&&◌, eqb, ◌⊎◌, List, [], ◌∷◌, ◌++◌, length, take, Some, None, Option, sym, refl, ap, ◌∙◌, subst, ap₂, inl, inr, ⊎_elim, arith}
-use Rattle.std.specs.List.{AllByRecursion as All, slice_get}
+use Rattle.std.proofs.Common.{◌≡◌, ℕ, zero, suc, ◌<◌, ◌≤◌, true, false, cond, not, ◌&&◌, eqb, ◌⊎◌, List, [], ◌∷◌, ◌++◌, length, get_or, take, Some, None, Option, sym, refl, ap, ◌∙◌, subst, ap₂, inl, inr, ⊎_elim, arith}
+use Rattle.std.specs.List.{All, slice_get}
 use Rattle.std.proofs.lemmas.Bool.{both_ways, cases_lt, cases_Bool, cond_both, cond-true, and_parts, and_from, eqb-true, eq-eqb, not-true, not_from_false, cases_order}
-use Rattle.std.proofs.ByRecursion.{All-append, All-weaker}
+use Rattle.std.proofs.lemmas.List.Elements.{All-nil, All-cons, All-head, All-tail, All-append, All-weaker}
 use Rattle.station_set.specs.Sets.{has}
 use Rattle.machine.specs.declared.call.Answer.{Answer}
 use Rattle.machine.specs.declared.call.Answer.TheVariants.{Done, WriteEnded, ReadEnded, Counted, Declined}
@@ -13,7 +13,7 @@ use Rattle.machine.specs.Calls.{opened}
 use Rattle.machine.specs.Properties.{Broadcast}
 use Rattle.machine.specs.Order.{Operation, write, read, found, Belongs, Begins, Ends, IsOrder}
 use Rattle.machine.proofs.Acts.{In}
-use Rattle.machine.proofs.Tables.{Mem, all_nth, mem_nth, mem_left, mem_right}
+use Rattle.machine.proofs.Tables.{Mem, all_nth, all_one, mem_nth, mem_left, mem_right}
 use Rattle.machine.proofs.Quorums.{everyone, share}
 use Rattle.machine.proofs.Along.{history_at, holds_at, numbers_rise, takes_below, took_below, takes_from, takes_to, one_begin, read_began, no_answer, past_end}
 use Rattle.machine.proofs.Precedence.{inside, below, correct, read_took, write_then_write, write_then_read, read_then_write, read_then_read, write_reached}
@@ -45,7 +45,9 @@ module _ {V : Type 0} where
 
   ascending_append : (l r : List (Operation V)) → Ascending l → Ascending r → All (λ o. All (ComesFirst o) r) l → Ascending (l ++ r)
   ascending_append [] r a b w = b
-  ascending_append (o ∷ l) r a b w = (All-append (ComesFirst o) l r a.0 w.0, ascending_append l r a.1 b w.1)
+  ascending_append (o ∷ l) r a b w =
+      let P : Operation V → Type 0 = λ o. All (ComesFirst o) r in
+      (All-append (ComesFirst o) l r a.0 (All-head P o l w), ascending_append l r a.1 b (All-tail P o l w))
 
   ascending_at : (l : List (Operation V)) (p q : ℕ) (o o' : Operation V) → Ascending l → slice_get l p ≡ Some o → slice_get l q ≡ Some o' → p < q → ComesFirst o o'
   ascending_at [] p q o o' a e e' l = absurd (let z : ◌≡◌ {A = ℕ} 0 1 = cc in omega arith)
@@ -98,8 +100,10 @@ module _ {V : Type 0} where
 
   legal_reads : (x : ℕ) (v : V) (l : List (Operation V)) → All (Returns x v) l → Legal (x, v) l × (found (x, v) l ≡ (x, v))
   legal_reads x v [] a = (tt, refl)
-  legal_reads x v (write y w ∷ l) a = absurd a.0
-  legal_reads x v (read i e y w ∷ l) a = let r = legal_reads x v l a.1 in ((ap₂ (λ m n. (m, n)) (sym a.0.0) (sym a.0.1), r.0), r.1)
+  legal_reads x v (write y w ∷ l) a = absurd (All-head (Returns x v) (write y w) l a)
+  legal_reads x v (read i e y w ∷ l) a =
+      let h = All-head (Returns x v) (read i e y w) l a in
+      let r = legal_reads x v l (All-tail (Returns x v) (read i e y w) l a) in ((ap₂ (λ m n. (m, n)) (sym h.0) (sym h.1), r.0), r.1)
 
 module _ {V : Type 0} (R : Run V) (L : Lawful R.setting) (ok : R.setting.system.allowed R.opening.faulty ≡ true) (B : Broadcast R) (j : ℕ) where
   abbrev c : Setting V
@@ -209,19 +213,26 @@ module _ {V : Type 0} (R : Run V) (L : Lawful R.setting) (ok : R.setting.system.
   read_longer x n (write y v) w = absurd w
   read_longer x n (read i e y v) w = (w.0, omega (arith, w.1), w.2, w.3)
 
-  entry_is : (x e : ℕ) (a : Option (Answer V)) → answer_at R e ≡ a → All (ReadOf x (suc e)) (entry x e a)
-  entry_is x e None q = tt
-  entry_is x e (Some Done) q = tt
-  entry_is x e (Some (WriteEnded i y)) q = tt
-  entry_is x e (Some (ReadEnded i k y v)) q =
-      cond_both (eqb k j && (eqb y x && not (has faulty i))) (read i e y v ∷ []) [] (All (ReadOf x (suc e)))
+  -- an entry is empty, or one read
+  entry_or_none : (P : List (Operation V) → Type 0) (x e : ℕ) (a : Option (Answer V)) → P []
+      → ((i y : ℕ) (v : V) → y ≡ x → In faulty i → a ≡ Some (ReadEnded i j y v) → P (read i e y v ∷ [])) → P (entry x e a)
+  entry_or_none P x e None none one = none
+  entry_or_none P x e (Some Done) none one = none
+  entry_or_none P x e (Some (WriteEnded i y)) none one = none
+  entry_or_none P x e (Some (ReadEnded i k y v)) none one =
+      cond_both (eqb k j && (eqb y x && not (has faulty i))) (read i e y v ∷ []) [] P
       (λ t. let w = and_parts _ _ t in let u = and_parts _ _ w.1 in
-      ((eqb-true y x u.0, omega arith, not-true _ u.1, q ∙ ap (λ z. Some (ReadEnded i z y v)) (eqb-true k j w.0)), tt)) (λ _. tt)
-  entry_is x e (Some (Counted waiting takeable)) q = tt
-  entry_is x e (Some (Declined reason)) q = tt
+      one i y v (eqb-true y x u.0) (not-true _ u.1) (ap (λ z. Some (ReadEnded i z y v)) (eqb-true k j w.0))) (λ _. none)
+  entry_or_none P x e (Some (Counted waiting takeable)) none one = none
+  entry_or_none P x e (Some (Declined reason)) none one = none
+
+  entry_is : (x e : ℕ) (a : Option (Answer V)) → answer_at R e ≡ a → All (ReadOf x (suc e)) (entry x e a)
+  entry_is x e a q =
+      entry_or_none (All (ReadOf x (suc e))) x e a (All-nil (ReadOf x (suc e)))
+      (λ i y v same in' r. all_one (ReadOf x (suc e)) (read i e y v) (same, omega arith, in', q ∙ r))
 
   reads_are : (x n : ℕ) → All (ReadOf x n) (reads x n)
-  reads_are x zero = tt
+  reads_are x zero = All-nil (ReadOf x 0)
   reads_are x (suc n) =
       All-append (ReadOf x (suc n)) (reads x n) _ (All-weaker (ReadOf x n) (ReadOf x (suc n)) (read_longer x n) (reads x n) (reads_are x n)) (entry_is x n (answer_at R n) refl)
 
@@ -245,18 +256,9 @@ module _ {V : Type 0} (R : Run V) (L : Lawful R.setting) (ok : R.setting.system.
   first_read x n (read i e y v) w (read i' e' y' v') w' q = record { by = inr (w.0 ∙ sym w'.0, omega (arith, w.1)) }
 
   entry_last : (x e : ℕ) (a : Option (Answer V)) → All (λ o. rank_of o ≡ suc e) (entry x e a) × Ascending (entry x e a)
-  entry_last x e None = (tt, tt)
-  entry_last x e (Some Done) = (tt, tt)
-  entry_last x e (Some (WriteEnded i y)) = (tt, tt)
-  entry_last x e (Some (ReadEnded i k y v)) =
-      cond_both (eqb k j && (eqb y x && not (has faulty i))) (read i e y v ∷ []) [] (λ l. All (λ o. rank_of o ≡ suc e) l × Ascending l)
-      (λ _. ((refl, tt), (tt, tt))) (λ _. (tt, tt))
-  entry_last x e (Some (Counted waiting takeable)) = (tt, tt)
-  entry_last x e (Some (Declined reason)) = (tt, tt)
-
-  all_both : (P Q : Operation V → Type 0) (l : List (Operation V)) → All P l → All Q l → All (λ o. P o × Q o) l
-  all_both P Q [] a b = tt
-  all_both P Q (o ∷ l) a b = ((a.0, b.0), all_both P Q l a.1 b.1)
+  entry_last x e a =
+      entry_or_none (λ l. All (λ o. rank_of o ≡ suc e) l × Ascending l) x e a (All-nil (λ o. rank_of o ≡ suc e), tt)
+      (λ i y v _ _ _. (all_one (λ o. rank_of o ≡ suc e) (read i e y v) refl, (All-nil (ComesFirst (read i e y v)), tt)))
 
   reads_ascend : (x n : ℕ) → Ascending (reads x n)
   reads_ascend x zero = tt
@@ -265,8 +267,7 @@ module _ {V : Type 0} (R : Run V) (L : Lawful R.setting) (ok : R.setting.system.
       let last = entry_last x n (answer_at R n) in
       ascending_append (reads x n) new (reads_ascend x n) last.1
       (All-weaker (ReadOf x n) (λ o. All (ComesFirst o) new)
-      (λ o w. All-weaker (λ o'. ReadOf x (suc n) o' × (rank_of o' ≡ suc n)) (ComesFirst o) (λ o' z. first_read x n o w o' z.0 z.1) new
-      (all_both (ReadOf x (suc n)) (λ o'. rank_of o' ≡ suc n) new (entry_is x n (answer_at R n) refl) last.0))
+      (λ o w p d lt. first_read x n o w (get_or new p d) (entry_is x n (answer_at R n) refl p d lt) (last.0 p d lt))
       (reads x n) (reads_are x n))
 
   read_number : (x n : ℕ) (o : Operation V) → ReadOf x n o → number_of o ≡ x
@@ -281,7 +282,8 @@ module _ {V : Type 0} (R : Run V) (L : Lawful R.setting) (ok : R.setting.system.
   upto_below zero = All-weaker (ReadOf 0 calls) (λ o. number_of o ≤ 0) (λ o w. omega (arith, read_number 0 calls o w)) (reads 0 calls) (reads_are 0 calls)
   upto_below (suc x) =
       All-append (λ o. number_of o ≤ suc x) (upto x) _ (All-weaker (λ o. number_of o ≤ x) (λ o. number_of o ≤ suc x) (λ o w. omega arith) (upto x) (upto_below x))
-      (omega arith, All-weaker (ReadOf (suc x) calls) (λ o. number_of o ≤ suc x) (λ o w. omega (arith, read_number (suc x) calls o w)) (reads (suc x) calls) (reads_are (suc x) calls))
+      (All-cons (λ o. number_of o ≤ suc x) (write (suc x) (value_of (suc x))) (reads (suc x) calls) (omega arith)
+      (All-weaker (ReadOf (suc x) calls) (λ o. number_of o ≤ suc x) (λ o w. omega (arith, read_number (suc x) calls o w)) (reads (suc x) calls) (reads_are (suc x) calls)))
 
   upto_ascends : (x : ℕ) → Ascending (upto x)
   upto_ascends zero = reads_ascend 0 calls
@@ -291,10 +293,8 @@ module _ {V : Type 0} (R : Run V) (L : Lawful R.setting) (ok : R.setting.system.
         reads_ascend (suc x) calls,
       )
       (All-weaker (λ o. number_of o ≤ x) (λ o. All (ComesFirst o) (write (suc x) (value_of (suc x)) ∷ reads (suc x) calls))
-      (λ o w. (
-        record { by = inl (omega arith) },
-        All-weaker (ReadOf (suc x) calls) (ComesFirst o) (λ o' r. record { by = inl (omega (arith, read_number (suc x) calls o' r)) }) (reads (suc x) calls) (reads_are (suc x) calls),
-      ))
+      (λ o w. All-cons (ComesFirst o) (write (suc x) (value_of (suc x))) (reads (suc x) calls) (record { by = inl (omega arith) })
+      (All-weaker (ReadOf (suc x) calls) (ComesFirst o) (λ o' r. record { by = inl (omega (arith, read_number (suc x) calls o' r)) }) (reads (suc x) calls) (reads_are (suc x) calls)))
       (upto x) (upto_below x))
 
   -- a read returned what the leader took
@@ -330,10 +330,10 @@ module _ {V : Type 0} (R : Run V) (L : Lawful R.setting) (ok : R.setting.system.
   upto_belongs : (x : ℕ) → x ≤ far leader → All (Belongs R j) (upto x)
   upto_belongs zero u = All-weaker (ReadOf 0 calls) (Belongs R j) (read_belongs 0) (reads 0 calls) (reads_are 0 calls)
   upto_belongs (suc x) u =
-      All-append (Belongs R j) (upto x) _ (upto_belongs x (omega arith)) (
-        let w = leader_takes (suc x) (omega arith) u in (leader, leader_correct, (w.0, w.2)),
-        All-weaker (ReadOf (suc x) calls) (Belongs R j) (read_belongs (suc x)) (reads (suc x) calls) (reads_are (suc x) calls),
-      )
+      let w = leader_takes (suc x) (omega arith) u in
+      All-append (Belongs R j) (upto x) _ (upto_belongs x (omega arith))
+      (All-cons (Belongs R j) (write (suc x) (value_of (suc x))) (reads (suc x) calls) (leader, leader_correct, (w.0, w.2))
+      (All-weaker (ReadOf (suc x) calls) (Belongs R j) (read_belongs (suc x)) (reads (suc x) calls) (reads_are (suc x) calls)))
 
   upto_reads : (t x : ℕ) (o : Operation V) → x ≤ t → Mem o (reads x calls) → Mem o (upto t)
   upto_reads zero x o l m = let e : x ≡ 0 = omega arith in subst (λ z. Mem o (reads z calls)) e m

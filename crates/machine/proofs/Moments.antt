@@ -1,6 +1,7 @@
 -- What holds at every moment of a run, and how an open operation goes on from call to call.
 use Rattle.std.proofs.Common.{◌≡◌, ℕ, ◌<◌, ◌≤◌, true, cond, eqb, ◌⊎◌, Some, None, sym, refl, ap, ◌∙◌, subst, inl, inr, arith}
 use Rattle.std.proofs.lemmas.Bool.Decides.{nat_tests}
+use Rattle.std.proofs.lemmas.List.Elements.{All-nil}
 use Rattle.station_set.specs.Sets.{Inside, with_station}
 use Rattle.machine.specs.declared.station.Stage.{Stage}
 use Rattle.machine.specs.declared.station.Stage.TheVariants.{Idle, Writing, Querying, Catching}
@@ -12,9 +13,9 @@ use Rattle.machine.proofs.Tables.{put_all}
 use Rattle.machine.proofs.Acts.{Act, Elsewhere, Drop, StartWrite, StartRead, SendEcho, GotEcho, GotReady, SendReady, TakeValue, GotReport, Freshen, GotDone, EndWrite, GotCaught, EndRead, Report, AnswerNow, Hold}
 use Rattle.machine.proofs.Acts.{In, apply, Guard, Inner, Chain, stay, more, Fits}
 use Rattle.machine.proofs.History.{History, no_history, known, note, Recorded, Later, later_refl, later_trans, act_recorded}
-use Rattle.machine.proofs.Voices.{Truthful, act_truthful, never_ahead}
+use Rattle.machine.proofs.Voices.{Truthful, Honest, act_truthful, never_ahead}
 use Rattle.machine.proofs.Arrivals.{Arrivals, act_arrivals, arrivals_opened}
-use Rattle.machine.proofs.Registers.{Sincere, act_sincere}
+use Rattle.machine.proofs.Registers.{Sincere, SincereMessage, act_sincere}
 use Rattle.machine.proofs.Pending.{Pending, act_pending, pending_opened}
 use Rattle.machine.proofs.Freshness.{ReadsFresh, act_fresh}
 
@@ -221,7 +222,7 @@ module _ {V : Type 0} (c : Setting V) (L : Lawful c) (o : Opening V) (ok : c.sys
           wrote = λ i e. record { zero_is = refl; ahead_is = λ x l. refl; past_is = λ x l u. absurd (omega arith) };
         };
         truthful = record {
-          honest = tt;
+          honest = All-nil (Honest c L o.faulty ok o.value (no_history o.value));
           marks = λ i j e. record {
             echo_ahead = λ x l. refl;
             echo_unsaid = λ q. refl;
@@ -239,6 +240,6 @@ module _ {V : Type 0} (c : Setting V) (L : Lawful c) (o : Opening V) (ok : c.sys
           };
         };
         arrivals = arrivals_opened c L o ok;
-        sincere = record { messages = tt; stages = λ i e. tt; current = λ i e. tt };
+        sincere = record { messages = All-nil (SincereMessage c o.faulty o.value (known (opened c o) (no_history o.value))); stages = λ i e. tt; current = λ i e. tt };
         pending = pending_opened c L o.faulty o.value o;
       }

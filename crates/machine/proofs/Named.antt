@@ -1,8 +1,9 @@
 -- Every waiting message, and every operation, names stations and registers of the bench only.
-use Rattle.std.proofs.Common.{◌≡◌, ℕ, zero, suc, ◌+◌, ◌<◌, ◌≤◌, true, ◌&&◌, eqb, List, [], ◌∷◌, map, Some, None, Option, refl, ap, ◌∙◌, subst, ⊎_elim, arith}
-use Rattle.std.specs.List.{range_with_len, AllByRecursion as All}
+use Rattle.std.proofs.Common.{◌≡◌, ℕ, suc, ◌+◌, ◌<◌, ◌≤◌, true, ◌&&◌, eqb, List, [], ◌∷◌, map, Some, None, Option, refl, ap, ◌∙◌, subst, ⊎_elim, arith}
+use Rattle.std.specs.List.{range_with_len, All}
 use Rattle.std.proofs.lemmas.Bool.{both_ways, cond_both, and_parts, eqb-true, ltb-true, not-false, and_cases}
-use Rattle.std.proofs.ByRecursion.{All-append, all_kept_by}
+use Rattle.std.proofs.lemmas.List.Elements.{All-nil, All-cons, All-append, All-weaker, All-map, All-filter}
+use Rattle.std.proofs.lemmas.List.FromFn.{length-range_with_len, get_or-range_with_len}
 use Rattle.station_set.specs.Sets.{Among, with_station}
 use Rattle.station_set.proofs.Members.{has_none}
 use Rattle.machine.specs.declared.message.Message.{Message}
@@ -18,22 +19,19 @@ use Rattle.machine.specs.Operations.{Outcome, leaves, start_catching, freshness_
 use Rattle.machine.specs.Publishing.{vote_echo, vote_ready, send_echo, send_ready, take_value, count_echoes, on_echo, join_readies, count_readies, on_ready}
 use Rattle.machine.specs.Calls.{act, unless_old, begin_write, begin_read, write_reasons, read_reasons, forge_reasons, forge_decline, uses_register, forged, opened, step}
 use Rattle.machine.proofs.Cases.{after_call}
-use Rattle.machine.proofs.Tables.{put_all, all_nth, all_removed}
+use Rattle.machine.proofs.Tables.{put_all, all_nth, all_removed, all_one}
 use Rattle.machine.proofs.Quorums.{joins}
-use Rattle.machine.proofs.Acts.{none_fits}
+use Rattle.machine.proofs.Acts.{unfit}
+
+counting_below : (a n top : ℕ) → a + n ≤ top → All (λ k. k < top) (range_with_len a n)
+counting_below a n top l i d lt = omega (arith, get_or-range_with_len a n i d (omega (arith, length-range_with_len a n)), length-range_with_len a n)
+
+all_of_below : {A : Type 0} (P : A → Type 0) (m : ℕ → A) (top : ℕ) → ((k : ℕ) → k < top → P (m k)) → (l : List ℕ) → All (λ k. k < top) l → All P (map m l)
+all_of_below P m top h l a = All-map P m l (All-weaker (λ k. k < top) (λ k. P (m k)) h l a)
 
 -- each element below n, of those counted from 0
 all_below : {A : Type 0} (P : A → Type 0) (m : ℕ → A) (a n top : ℕ) → a + n ≤ top → ((k : ℕ) → k < top → P (m k)) → All P (map m (range_with_len a n))
-all_below P m a zero top l h = tt
-all_below P m a (suc n) top l h = (h a (omega arith), all_below P m (a + 1) n top (omega arith) h)
-
-counting_below : (a n top : ℕ) → a + n ≤ top → All (λ k. k < top) (range_with_len a n)
-counting_below a zero top l = tt
-counting_below a (suc n) top l = (omega arith, counting_below (a + 1) n top (omega arith))
-
-all_of_below : {A : Type 0} (P : A → Type 0) (m : ℕ → A) (top : ℕ) → ((k : ℕ) → k < top → P (m k)) → (l : List ℕ) → All (λ k. k < top) l → All P (map m l)
-all_of_below P m top h [] a = tt
-all_of_below P m top h (k ∷ l) a = (h k a.0, all_of_below P m top h l a.1)
+all_below P m a n top l h = all_of_below P m top h (range_with_len a n) (counting_below a n top l)
 
 module _ {V : Type 0} (c : Setting V) where
   abbrev pub Names : ℕ → Message V → Type 0
@@ -101,11 +99,10 @@ module _ {V : Type 0} (c : Setting V) where
   taking : (s : State V) (i j : ℕ) (v : V) → i < s.figures.stations → j < s.figures.stations → Named s → Named (take_value i j v s)
   taking s i j v li lj h =
       record {
-        messages = All-append (Names s.figures.stations) s.pool _ h.messages (
-          (li, lj),
-          all_of_below (Names s.figures.stations) (λ k. CatchUpDone i k j (suc (number s i j))) s.figures.stations (λ k l. (li, l, lj)) _
-              (all_kept_by (λ k. eqb (s.held i k j) (suc (number s i j))) (λ k. k < s.figures.stations) (range_with_len 0 s.figures.stations) (counting_below 0 s.figures.stations s.figures.stations (omega arith))),
-        );
+        messages = All-append (Names s.figures.stations) s.pool _ h.messages (All-cons (Names s.figures.stations) _ _
+            (li, lj)
+            (all_of_below (Names s.figures.stations) (λ k. CatchUpDone i k j (suc (number s i j))) s.figures.stations (λ k l. (li, l, lj)) _
+            (All-filter (λ k. eqb (s.held i k j) (suc (number s i j))) (λ k. k < s.figures.stations) (range_with_len 0 s.figures.stations) (counting_below 0 s.figures.stations s.figures.stations (omega arith)))));
         stages = h.stages;
       }
 
@@ -182,10 +179,10 @@ module _ {V : Type 0} (c : Setting V) where
   acts s (Echo k i j x v) a h = by _ (old_or s _ i j x h (echo s i j k v a.1 a.2 h))
   acts s (Ready k i j x v) a h = by _ (old_or s _ i j x h (ready s i j k v a.1 a.2 h))
   acts s (WriteDone k i x) a h = write_done s i k x (s.station i).stage refl a.0 h
-  acts s (Read k i j r) a h = by _ (sends s (StateOf i k j r (number s i j) ∷ []) ((a.1, a.0, a.2), tt) h)
+  acts s (Read k i j r) a h = by _ (sends s (StateOf i k j r (number s i j) ∷ []) (all_one (Names s.figures.stations) _ (a.1, a.0, a.2)) h)
   acts s (StateOf k i j r x) a h = by _ (state s i k j r x (s.station i).stage refl a.1 a.0 a.2 h)
   acts s (CatchUp k i j x) a h =
-      by _ (cond_both _ (send (CatchUpDone i k j x ∷ []) s) _ Named (λ _. sends s (CatchUpDone i k j x ∷ []) ((a.1, a.0, a.2), tt) h) (λ _. record { messages = h.messages; stages = h.stages }))
+      by _ (cond_both _ (send (CatchUpDone i k j x ∷ []) s) _ Named (λ _. sends s (CatchUpDone i k j x ∷ []) (all_one (Names s.figures.stations) _ (a.1, a.0, a.2)) h) (λ _. record { messages = h.messages; stages = h.stages }))
   acts s (CatchUpDone k i j x) a h = caught s i k j x (s.station i).stage refl a.0 a.2 h
 
   -- a forged message names what its fields name
@@ -234,9 +231,9 @@ module _ {V : Type 0} (c : Setting V) where
         stays = h;
         removes = λ p. removes s p h;
         acts = λ p m e. (acts (remove p s) m (all_nth (Names n) s.pool p m h.messages e) (removes s p h)).state;
-        forges = λ f m e d. sends s (m ∷ []) (forged_names f m e d, tt) h;
-        writes = λ i v e. writes s i v (ltb-true i n (not-false _ (none_fits c 0 (write_reasons s i) e).0)) h;
-        asks = λ i j e. let w = and_parts _ _ (not-false _ (none_fits c 0 (read_reasons s i j) e).0) in asks s i j (ltb-true i n w.0) (ltb-true j n w.1) h;
+        forges = λ f m e d. sends s (m ∷ []) (all_one (Names s.figures.stations) m (forged_names f m e d)) h;
+        writes = λ i v e. writes s i v (ltb-true i n (not-false _ (unfit c 0 (write_reasons s i) e 0 _ refl))) h;
+        asks = λ i j e. let w = and_parts _ _ (not-false _ (unfit c 0 (read_reasons s i j) e 0 _ refl)) in asks s i j (ltb-true i n w.0) (ltb-true j n w.1) h;
       })
       call
     where
@@ -245,11 +242,11 @@ module _ {V : Type 0} (c : Setting V) where
 
       forged_names : (f : Forgery V) (m : Message V) → forged s.figures.highest f ≡ Some m → forge_decline s f (Some m) ≡ None → Names n m
       forged_names f m e d =
-          let all = none_fits c 0 (forge_reasons s f (Some m)) d in
-          let w = and_parts _ _ (not-false _ all.0) in
+          let none = unfit c 0 (forge_reasons s f (Some m)) d in
+          let w = and_parts _ _ (not-false _ (none 0 _ refl)) in
           forge_names n (forged s.figures.highest f) m
           (forges n s.figures.highest f (ltb-true _ _ w.0) (ltb-true _ _ w.1)
-          (λ u. ⊎_elim (λ no. absurd (both_ways _ no u)) (λ no. ltb-true _ _ (not-false _ no)) (and_cases _ _ all.1.0))) e
+          (λ u. ⊎_elim (λ no. absurd (both_ways _ no u)) (λ no. ltb-true _ _ (not-false _ no)) (and_cases _ _ (none 1 _ refl)))) e
 
   pub named_opened : (o : Opening V) → Named (opened c o)
-  named_opened o = record { messages = tt; stages = λ a. tt }
+  named_opened o = record { messages = All-nil (Names c.system.stations); stages = λ a. tt }

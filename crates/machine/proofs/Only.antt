@@ -1,9 +1,9 @@
 -- A station that acts changes its own tables only, and sends in its own name.
-use Rattle.std.proofs.Common.{◌≡◌, ℕ, suc, max, ◌&&◌, eqb, List, [], ◌∷◌, ◌++◌, filter, sym, refl, ap, ◌∙◌, append_assoc, append-nil}
+use Rattle.std.proofs.Common.{◌≡◌, ℕ, suc, max, ◌&&◌, eqb, List, [], ◌∷◌, ◌++◌, sym, refl, ap, ◌∙◌, append_assoc, append-nil}
 use mathlib.Core.Path.{fun_ext}
-use Rattle.std.specs.List.{range_with_len, AllByRecursion as All}
+use Rattle.std.specs.List.{All}
 use Rattle.std.proofs.lemmas.Bool.{cond_both, eqb-true, and_parts}
-use Rattle.std.proofs.ByRecursion.{All-append, All-map}
+use Rattle.std.proofs.lemmas.List.Elements.{All-nil, All-append}
 use Rattle.station_set.specs.Sets.{with_station}
 use Rattle.machine.specs.declared.message.Message.{Message}
 use Rattle.machine.specs.declared.message.Message.TheVariants.{Init, Echo, Ready, WriteDone, Read, State as StateOf, CatchUp, CatchUpDone}
@@ -15,7 +15,7 @@ use Rattle.machine.specs.State.{Setting, Cell, State, number, with_cell, with_st
 use Rattle.machine.specs.Operations.{Outcome, leaves, start_catching, freshness_at, test_freshness, write_done_at, keep_report, state_at, catch_up_done_at}
 use Rattle.machine.specs.Publishing.{vote_echo, vote_ready, send_echo, send_ready, release, take_value, count_echoes, on_echo, join_readies, count_readies, on_ready}
 use Rattle.machine.specs.Calls.{sender, receiver, act, begin_write, begin_read, unless_old}
-use Rattle.machine.proofs.Tables.{put_other, all_of, all_to_all, put_pair_other, put_triple_other}
+use Rattle.machine.proofs.Tables.{put_other, all_one, all_to_all, all_and_each, put_pair_other, put_triple_other}
 
 release_other : (i j x : ℕ) (held : ℕ → ℕ → ℕ → ℕ) (a k b : ℕ) → (a ≡ i → ⊥) → release i j x held a k b ≡ held a k b
 release_other i j x held a k b ne =
@@ -44,7 +44,7 @@ module _ {V : Type 0} where
         held_same = λ a k b _. refl;
         sent = [];
         pool_is = sym (append-nil s.pool);
-        by = tt;
+        by = All-nil (λ m. sender m ≡ i);
       }
 
   pub only_then : (i : ℕ) (s t u : State V) → Only i s t → Only i t u → Only i s u
@@ -86,7 +86,7 @@ module _ {V : Type 0} where
         held_same = λ a k b _. refl;
         sent = [];
         pool_is = sym (append-nil s.pool);
-        by = tt;
+        by = All-nil (λ m. sender m ≡ i);
       }
 
   only_stage : (i : ℕ) (o : Stage V) (s : State V) → Only i s (with_stage i o s)
@@ -100,7 +100,7 @@ module _ {V : Type 0} where
         held_same = λ a k b _. refl;
         sent = [];
         pool_is = sym (append-nil s.pool);
-        by = tt;
+        by = All-nil (λ m. sender m ≡ i);
       }
 
   only_written : (i x : ℕ) (s : State V) → Only i s (with_written i x s)
@@ -114,7 +114,7 @@ module _ {V : Type 0} where
         held_same = λ a k b _. refl;
         sent = [];
         pool_is = sym (append-nil s.pool);
-        by = tt;
+        by = All-nil (λ m. sender m ≡ i);
       }
 
   only_reads : (i j r : ℕ) (s : State V) → Only i s (with_reads i j r s)
@@ -128,7 +128,7 @@ module _ {V : Type 0} where
         held_same = λ a k b _. refl;
         sent = [];
         pool_is = sym (append-nil s.pool);
-        by = tt;
+        by = All-nil (λ m. sender m ≡ i);
       }
 
   only_report : (i k x : ℕ) (s : State V) → Only i s (with_report i k x s)
@@ -142,7 +142,7 @@ module _ {V : Type 0} where
         held_same = λ a k b _. refl;
         sent = [];
         pool_is = sym (append-nil s.pool);
-        by = tt;
+        by = All-nil (λ m. sender m ≡ i);
       }
 
   only_held : (i : ℕ) (held : ℕ → ℕ → ℕ → ℕ) (s : State V) → ((a k b : ℕ) → (a ≡ i → ⊥) → held a k b ≡ s.held a k b) → Only i s (with_held held s)
@@ -156,7 +156,7 @@ module _ {V : Type 0} where
         held_same = same;
         sent = [];
         pool_is = sym (append-nil s.pool);
-        by = tt;
+        by = All-nil (λ m. sender m ≡ i);
       }
 
   -- the rules
@@ -186,11 +186,7 @@ module _ {V : Type 0} where
   only_take_value i j v s =
       only_then i s (with_cell i j _ s) _ (only_cell i j _ s)
       (only_then i (with_cell i j _ s) (with_held _ (with_cell i j _ s)) _ (only_held i _ (with_cell i j _ s) (release_other i j (suc (number s i j)) s.held))
-      (only_send i _ _ (
-        refl,
-        All-map (λ m. sender m ≡ i) (λ k. CatchUpDone i k j (suc (number s i j))) (filter (λ k. eqb (s.held i k j) (suc (number s i j))) (range_with_len 0 s.figures.stations))
-            (all_of (λ k. i ≡ i) _ (λ k. refl)),
-      )))
+      (only_send i _ _ (all_and_each (λ m. sender m ≡ i) _ (λ k. CatchUpDone i k j (suc (number s i j))) _ refl (λ k. refl))))
 
   only_count_echoes : (c : Setting V) (i j : ℕ) (v : V) (s : State V) → Only i s (count_echoes c i j v s)
   only_count_echoes c i j v s = cond_both _ (send_ready i j v s) s (Only i s) (λ _. only_send_ready i j v s) (λ _. only_none i s)
@@ -287,10 +283,10 @@ module _ {V : Type 0} where
   own_act c s (Echo k i j x v) = quiet i s _ (only_old i j x s _ (only_echo c i j k v s))
   own_act c s (Ready k i j x v) = quiet i s _ (only_old i j x s _ (only_ready c i j k v s))
   own_act c s (WriteDone k i x) = own_write_done c i k x s (s.station i).stage
-  own_act c s (Read k i j r) = quiet i s _ (only_send i s (StateOf i k j r (number s i j) ∷ []) (refl, tt))
+  own_act c s (Read k i j r) = quiet i s _ (only_send i s (StateOf i k j r (number s i j) ∷ []) (all_one (λ m. sender m ≡ i) _ refl))
   own_act c s (StateOf k i j r x) = quiet i s _ (only_state c i k j r x s (s.station i).stage)
   own_act c s (CatchUp k i j x) =
       quiet i s _
-      (cond_both _ (send (CatchUpDone i k j x ∷ []) s) _ (Only i s) (λ _. only_send i s (CatchUpDone i k j x ∷ []) (refl, tt))
+      (cond_both _ (send (CatchUpDone i k j x ∷ []) s) _ (Only i s) (λ _. only_send i s (CatchUpDone i k j x ∷ []) (all_one (λ m. sender m ≡ i) _ refl))
       (λ _. only_held i _ s (λ a d b ne. put_triple_other s.held i k j (max (s.held i k j) x) a d b (λ q. ne q.0))))
   own_act c s (CatchUpDone k i j x) = own_caught c i k j x s (s.station i).stage

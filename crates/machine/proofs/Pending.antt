@@ -1,8 +1,8 @@
 -- What an open operation of a station inside waits for: each answer that it lacks is on its way, or will be sent.
-use Rattle.std.proofs.Common.{◌≡◌, ℕ, suc, ◌<◌, ◌≤◌, max, true, eqb, ◌⊎◌, List, [], ◌∷◌, ◌++◌, Some, sym, refl, ap, ◌∙◌, subst, ap₂, inl, inr, ⊎_elim, append-nil, arith}
-use Rattle.std.specs.List.{range_with_len, remove as removed, AllByRecursion as All, slice_get}
+use Rattle.std.proofs.Common.{◌≡◌, ℕ, suc, ◌<◌, ◌≤◌, max, true, eqb, ◌⊎◌, List, [], ◌∷◌, ◌++◌, Some, sym, refl, ap, ◌∙◌, subst, ap₂, inl, inr, ⊎_elim, append-nil, get_or, arith}
+use Rattle.std.specs.List.{range_with_len, remove as removed, All, slice_get}
 use Rattle.std.proofs.lemmas.Bool.{both_ways, cases_eq, cond_both, and_parts, eqb-true, eq-eqb}
-use Rattle.std.proofs.ByRecursion.{All-append, All-map, All-push, All-weaker}
+use Rattle.std.proofs.lemmas.List.Elements.{All-nil, All-append, All-push, All-weaker}
 use Rattle.station_set.specs.Sets.{has, with_station}
 use Rattle.machine.specs.declared.message.Message.{Message}
 use Rattle.machine.specs.declared.message.Message.TheVariants.{Init, Echo, Ready, WriteDone, Read, State as StateOf, CatchUp, CatchUpDone}
@@ -12,7 +12,7 @@ use Rattle.machine.specs.declared.station.Station.{Station}
 use Rattle.machine.specs.declared.call.Opening.{Opening}
 use Rattle.machine.specs.State.{Setting, Lawful, Cell, State, number, put, fresh_cell, remove}
 use Rattle.machine.specs.Calls.{sender, receiver, opened}
-use Rattle.machine.proofs.Tables.{put_all, put_else, put_same, put_pair_same, put_pair_other, put_triple_else, all_nth, all_removed, all_of, all_to_all, Mem, mem_left, mem_right, mem_map, mem_kept, mem_counting, mem_to_all, mem_removed, cases_le}
+use Rattle.machine.proofs.Tables.{put_all, put_else, put_same, put_pair_same, put_pair_other, put_triple_else, all_nth, all_removed, all_to_all, all_and_each, Mem, mem_left, mem_right, mem_map, mem_kept, mem_counting, mem_to_all, mem_removed, cases_le}
 use Rattle.machine.proofs.Pools.{swap_all, swap_mem}
 use Rattle.machine.proofs.Quorums.{joined, joined_before}
 use Rattle.machine.proofs.Acts.{Act, Elsewhere, Drop, StartWrite, StartRead, SendEcho, GotEcho, GotReady, SendReady, TakeValue, GotReport, Freshen, GotDone, EndWrite, GotCaught, EndRead, Report, AnswerNow, Hold}
@@ -193,8 +193,7 @@ module _ {V : Type 0} (c : Setting V) (L : Lawful c) (f : ℕ) (v₀ : V) where
     -- messages where the stage of station a goes to o, which asks for nothing new
     turned : (a : ℕ) (o : Stage V) (l : List (Message V)) → (In f a → (j x : ℕ) → x ≤ number s a j → AtMost j x (s.station a).stage → AtMost j x o)
         → All (SincereMessage c f v₀ (known s h)) l → All (Asked (stages s)) l → All (Asked (put a o (stages s))) l
-    turned a o [] low x y = tt
-    turned a o (m ∷ l) low x y = (one m x.0 y.0, turned a o l low x.1 y.1)
+    turned a o l low x y p m lt = one (get_or l p m) (x p m lt) (y p m lt)
       where
         one : (m : Message V) → SincereMessage c f v₀ (known s h) m → Asked (stages s) m → Asked (put a o (stages s)) m
         one (Init k i x v) p q = tt
@@ -229,7 +228,7 @@ module _ {V : Type 0} (c : Setting V) (L : Lawful c) (f : ℕ) (v₀ : V) where
     by_foreign : (t : State V) → Foreign c f s t → Pending t
     by_foreign t w =
         same_stages t nobody
-        (kept t (λ m _ e q z. swap_mem _ _ s.pool t.pool w.pool_change m (λ d. ⊎_elim (λ x. both_ways _ e x) (λ x. both_ways _ q x) d) z)
+        (kept t (λ m _ e q z. swap_mem (λ m. has f (sender m) ≡ true) _ s.pool t.pool w.pool_change m (λ d. ⊎_elim (λ x. both_ways _ e x) (λ x. both_ways _ q x) d) z)
         (λ k j e. ap (λ (z : Cell V). z.copy.number) (w.cell_same k j e)) (λ k i j e. w.held_same k i j e))
         w.station_same (λ i k _ _ _ _ z. absurd (not_nobody i k (s.station i).stage z))
         (swap_all _ _ (Asked (stages s)) s.pool t.pool w.pool_change (outside_asked (stages s)) P.asked)
@@ -237,7 +236,7 @@ module _ {V : Type 0} (c : Setting V) (L : Lawful c) (f : ℕ) (v₀ : V) where
     by_casts : (t : State V) → Casts c f s t → Pending t
     by_casts t w =
         same_stages t nobody
-        (kept t (λ m a _ _ z. swap_mem _ _ s.pool t.pool w.pool_change m (λ b. kinds_apart m b a) z) (λ k j _. w.number_same k j) (λ k i j _. w.held_same k i j))
+        (kept t (λ m a _ _ z. swap_mem Casting _ s.pool t.pool w.pool_change m (λ b. kinds_apart m b a) z) (λ k j _. w.number_same k j) (λ k i j _. w.held_same k i j))
         (λ i _. w.station_same i) (λ i k _ _ _ _ z. absurd (not_nobody i k (s.station i).stage z))
         (swap_all _ _ (Asked (stages s)) s.pool t.pool w.pool_change (casting_asked (stages s)) P.asked)
 
@@ -473,7 +472,7 @@ module _ {V : Type 0} (c : Setting V) (L : Lawful c) (f : ℕ) (v₀ : V) where
         record {
           awaits = λ i e l k q u. on i k e q l (s.station i).stage (P.awaits i e l k q u);
           asked = All-append (Asked (stages s)) s.pool _ P.asked
-              (tt, All-map (Asked (stages s)) (λ k. CatchUpDone a k b x) _ (all_of (λ k. Unit {0}) _ (λ k. tt)));
+              (all_and_each (Asked (stages s)) _ (λ k. CatchUpDone a k b x) _ tt (λ k. tt));
           held_low = λ k i j e q. omega (arith, released k i j, P.held_low k i j e q, up i j);
           held_asked = λ k i j e q. at_most_low j (s.held k i j) (t.held k i j) (s.station i).stage (released k i j) (P.held_asked k i j e q);
         }
@@ -559,4 +558,4 @@ module _ {V : Type 0} (c : Setting V) (L : Lawful c) (f : ℕ) (v₀ : V) where
     act_pending bounded (Hold p i k j x) gd = by_hold p i k j x gd
 
   pub pending_opened : (o : Opening V) → Pending (opened c o)
-  pending_opened o = record { awaits = λ i e l k q u. tt; asked = tt; held_low = λ k i j e q. omega arith; held_asked = λ k i j e q. tt }
+  pending_opened o = record { awaits = λ i e l k q u. tt; asked = All-nil (Asked (stages (opened c o))); held_low = λ k i j e q. omega arith; held_asked = λ k i j e q. tt }

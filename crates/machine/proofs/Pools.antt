@@ -1,7 +1,7 @@
 -- How a pool changes: it may lose one message, and others join its end.
 use Rattle.std.proofs.Common.{◌≡◌, ℕ, ◌⊎◌, List, [], ◌++◌, Some, sym, refl, subst, inl, inr, ⊎_elim, append-nil}
-use Rattle.std.specs.List.{remove, AllByRecursion as All, slice_get}
-use Rattle.std.proofs.ByRecursion.{All-append, All-weaker}
+use Rattle.std.specs.List.{remove, All, slice_get}
+use Rattle.std.proofs.lemmas.List.Elements.{All-nil, All-append, All-weaker}
 use Rattle.machine.proofs.Tables.{Mem, all_removed, mem_left, mem_removed}
 
 -- the messages that join are N, and one that leaves is D
@@ -11,13 +11,13 @@ Swap {A} N D l l' =
     × ((kept ≡ l) ⊎ ((p : ℕ) × (m : A) × (slice_get l p ≡ Some m) × D m × (kept ≡ remove l p)))
 
 pub swap_none : {A : Type 0} (N D : A → Type 0) (l : List A) → Swap N D l l
-swap_none N D l = (l, [], sym (append-nil l), tt, inl refl)
+swap_none N D l = (l, [], sym (append-nil l), All-nil N, inl refl)
 
 pub swap_new : {A : Type 0} (N D : A → Type 0) (l new : List A) → All N new → Swap N D l (l ++ new)
 swap_new N D l new a = (l, new, refl, a, inl refl)
 
 pub swap_removed : {A : Type 0} (N D : A → Type 0) (l : List A) (p : ℕ) (m : A) → slice_get l p ≡ Some m → D m → Swap N D l (remove l p)
-swap_removed N D l p m e d = (remove l p, [], sym (append-nil (remove l p)), tt, inr (p, m, e, d, refl))
+swap_removed N D l p m e d = (remove l p, [], sym (append-nil (remove l p)), All-nil N, inr (p, m, e, d, refl))
 
 pub swap_both : {A : Type 0} (N D : A → Type 0) (l new : List A) (p : ℕ) (m : A) → slice_get l p ≡ Some m → D m → All N new → Swap N D l (remove l p ++ new)
 swap_both N D l new p m e d a = (remove l p, new, refl, a, inr (p, m, e, d, refl))

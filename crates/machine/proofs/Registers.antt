@@ -2,10 +2,10 @@
 -- Of the broadcast nothing is used here but that numbers never fall and that a copy is what was taken.
 use Rattle.std.proofs.Common.{◌≡◌, ℕ, suc, ◌<◌, ◌≤◌, true, List, Some, sym, refl, ap, ◌∙◌, subst, ap₂, ⊎_elim, arith}
 use mathlib.Core.Path.{fun_ext}
-use Rattle.std.specs.List.{remove, AllByRecursion as All, slice_get}
+use Rattle.std.specs.List.{remove, All, slice_get}
 use Rattle.std.proofs.lemmas.Bool.{both_ways}
 use Rattle.std.proofs.lemmas.Bool.Decides.{nat_tests}
-use Rattle.std.proofs.ByRecursion.{All-append, All-map, All-push, All-weaker}
+use Rattle.std.proofs.lemmas.List.Elements.{All-append, All-push, All-weaker}
 use Rattle.station_set.specs.Sets.{has, with_station}
 use Rattle.station_set.proofs.Members.{has_none}
 use Rattle.machine.specs.declared.message.Message.{Message}
@@ -15,7 +15,7 @@ use Rattle.machine.specs.declared.station.Stage.TheVariants.{Idle, Writing, Quer
 use Rattle.machine.specs.declared.station.Station.{Station}
 use Rattle.machine.specs.State.{Setting, Lawful, Cell, State, number, put, put_pair, fresh_cell}
 use Rattle.machine.specs.Calls.{sender}
-use Rattle.machine.proofs.Tables.{put_all, put_else, put_same, put_other, put_pair_else, put_pair_other, put_pair_same, all_nth, all_removed, all_of, all_to_all}
+use Rattle.machine.proofs.Tables.{put_all, put_else, put_same, put_other, put_pair_else, put_pair_other, put_pair_same, all_nth, all_removed, all_to_all, all_and_each}
 use Rattle.machine.proofs.Pools.{swap_all}
 use Rattle.machine.proofs.Quorums.{joins, everyone}
 use Rattle.machine.proofs.Acts.{Act, Elsewhere, Drop, StartWrite, StartRead, SendEcho, GotEcho, GotReady, SendReady, TakeValue, GotReport, Freshen, GotDone, EndWrite, GotCaught, EndRead, Report, AnswerNow, Hold}
@@ -170,7 +170,7 @@ module _ {V : Type 0} (c : Setting V) (f : ℕ) (v₀ : V) where
         let reached : x ≤ number t i j = omega (arith, ap (λ (z : Cell V). z.copy.number) (put_pair_same s.cell i j (fresh_cell v x))) in
         same_stages t g lt (λ a _. refl) (λ a _. refl) (λ a b _. refl)
         (All-append (SincereMessage (known t g)) s.pool _ (messages_later (known s h) (known t g) lt s.pool S.messages)
-        (λ _. reached, All-map (SincereMessage (known t g)) (λ k. CatchUpDone i k j x) _ (all_of (λ k. In f i → x ≤ number t i j) _ (λ k _. reached))))
+        (all_and_each (SincereMessage (known t g)) _ (λ k. CatchUpDone i k j x) _ (λ _. reached) (λ k _. reached)))
 
     by_begin_write : (i : ℕ) (v : V) → In f i → Later c f v₀ (known s h) (known (apply c f (StartWrite i v) s) (note c f v₀ (StartWrite i v) s h))
         → Sincere (apply c f (StartWrite i v) s) (note c f v₀ (StartWrite i v) s h)

@@ -1,9 +1,10 @@
 -- Tables with one entry overwritten, and lists of messages: what holds of all entries or messages lasts.
-use Rattle.std.proofs.Common.{◌≡◌, ℕ, zero, suc, ◌+◌, ◌<◌, ◌≤◌, Bool, true, false, cond, ◌&&◌, eqb, ◌⊎◌, List, [], ◌∷◌, ◌++◌, map, take, drop, Some, None, filter, Option, sym, refl, ap, subst, subst₂, inl, inr, ⊎_elim, arith}
-use Rattle.std.specs.List.{range_with_len, remove, AllByRecursion as All, slice_get}
+use Rattle.std.proofs.Common.{◌≡◌, ℕ, zero, suc, ◌+◌, ◌<◌, ◌≤◌, Bool, true, false, cond, ◌&&◌, eqb, ◌⊎◌, List, [], ◌∷◌, ◌++◌, map, take, drop, Some, None, filter, get_or, Option, sym, refl, ap, subst, subst₂, inl, inr, ⊎_elim, arith}
+use Rattle.std.specs.List.{range_with_len, remove, All, slice_get}
 use Rattle.std.proofs.lemmas.Bool.{cond_both, and_parts, and_from, both_ways, eqb-true, eqb-false, eq-eqb, cases_lt}
 use Rattle.std.proofs.lemmas.Bool.Decides.{nat_tests}
-use Rattle.std.proofs.ByRecursion.{All-append, All-take, All-drop, All-map}
+use Rattle.std.proofs.lemmas.List.Elements.{All-nil, All-cons, All-append, All-take, All-drop, All-map}
+use Rattle.std.proofs.lemmas.Option.{slice_get_within, get_or_from_slice_get}
 use Rattle.machine.specs.State.{put, put_pair, put_triple, to_all}
 use Rattle.machine.specs.Publishing.{is_none}
 
@@ -108,20 +109,25 @@ is_there (Some v) e = (v, refl)
 -- Lists
 
 pub all_nth : {A : Type 0} (P : A → Type 0) (l : List A) (p : ℕ) (m : A) → All P l → slice_get l p ≡ Some m → P m
-all_nth P [] p m a e = absurd (let z : ◌≡◌ {A = ℕ} 0 1 = cc in omega arith)
-all_nth P (x ∷ l) zero m a e = let q : x ≡ m = cc in subst P q a.0
-all_nth P (x ∷ l) (suc p) m a e = all_nth P l p m a.1 e
+all_nth P l p m a e = subst P (get_or_from_slice_get l p m m e) (a p m (slice_get_within l p m e))
 
 pub all_removed : {A : Type 0} (P : A → Type 0) (l : List A) (p : ℕ) → All P l → All P (remove l p)
 all_removed P l p a = All-append P (take p l) (drop (suc p) l) (All-take P p l a) (All-drop P (suc p) l a)
 
--- a fact of everything is a fact of each element
-pub all_of : {A : Type 0} (P : A → Type 0) (l : List A) → ((x : A) → P x) → All P l
-all_of P [] h = tt
-all_of P (x ∷ l) h = (h x, all_of P l h)
+-- a list of one element
+pub all_one : {A : Type 0} (P : A → Type 0) (x : A) → P x → All P (x ∷ [])
+all_one P x h = All-cons P x [] h (All-nil P)
+
+-- a fact of every f k is a fact of those in a list
+all_each : {A : Type 0} (P : A → Type 0) (f : ℕ → A) (l : List ℕ) → ((k : ℕ) → P (f k)) → All P (map f l)
+all_each P f l h = All-map P f l (λ p d lt. h (get_or l p d))
 
 pub all_to_all : {A : Type 0} (P : A → Type 0) (n : ℕ) (f : ℕ → A) → ((k : ℕ) → P (f k)) → All P (to_all n f)
-all_to_all P n f h = All-map P f (range_with_len 0 n) (all_of (λ k. P (f k)) (range_with_len 0 n) h)
+all_to_all P n f h = all_each P f (range_with_len 0 n) h
+
+-- the same after one more
+pub all_and_each : {A : Type 0} (P : A → Type 0) (x : A) (f : ℕ → A) (l : List ℕ) → P x → ((k : ℕ) → P (f k)) → All P (x ∷ map f l)
+all_and_each P x f l one h = All-cons P x (map f l) one (all_each P f l h)
 
 -- a message stands in a list
 abbrev pub Mem : {A : Type 0} → A → List A → Type 0

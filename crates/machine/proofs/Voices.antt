@@ -1,8 +1,8 @@
 -- The broadcast, safety: stations inside say one thing, and what they take is backed by quorums.
-use Rattle.std.proofs.Common.{◌≡◌, ℕ, zero, suc, ◌<◌, ◌≤◌, true, false, List, map, Some, None, Option, sym, refl, ap, ◌∙◌, subst, ⊎_elim, arith}
-use Rattle.std.specs.List.{remove, AllByRecursion as All, slice_get}
+use Rattle.std.proofs.Common.{◌≡◌, ℕ, zero, suc, ◌<◌, ◌≤◌, true, false, List, Some, None, Option, sym, refl, ap, ◌∙◌, subst, ⊎_elim, arith}
+use Rattle.std.specs.List.{remove, All, slice_get}
 use Rattle.std.proofs.lemmas.Bool.{both_ways, cases_lt}
-use Rattle.std.proofs.ByRecursion.{All-append, All-map, All-weaker}
+use Rattle.std.proofs.lemmas.List.Elements.{All-append, All-weaker}
 use Rattle.station_set.specs.Sets.{has, Among}
 use Rattle.machine.specs.declared.message.Message.{Message}
 use Rattle.machine.specs.declared.message.Message.TheVariants.{Init, Echo, Ready, WriteDone, Read, State as StateOf, CatchUp, CatchUpDone}
@@ -10,7 +10,7 @@ use Rattle.machine.specs.declared.station.RegisterCopy.{RegisterCopy}
 use Rattle.machine.specs.State.{Setting, Lawful, Cell, State, number, put, put_pair, fresh_cell}
 use Rattle.machine.specs.Publishing.{mark_echoed, mark_readied, vote_echo, vote_ready, echo_voters, ready_voters}
 use Rattle.machine.specs.Calls.{sender}
-use Rattle.machine.proofs.Tables.{put_same, put_other, put_grows, put_pair_all, put_pair_else, put_pair_other, put_pair_same, put_pair_grows, stands_put, all_nth, all_removed, all_of, all_to_all}
+use Rattle.machine.proofs.Tables.{put_same, put_other, put_grows, put_pair_all, put_pair_else, put_pair_other, put_pair_same, put_pair_grows, stands_put, all_nth, all_removed, all_to_all, all_and_each}
 use Rattle.machine.proofs.Pools.{swap_all}
 use Rattle.machine.proofs.Quorums.{voter_said, voters-among, share, member_inside, quorum_is_not_allowed}
 use Rattle.machine.proofs.Acts.{Act, Elsewhere, Drop, StartWrite, StartRead, SendEcho, GotEcho, GotReady, SendReady, TakeValue, GotReport, Freshen, GotDone, EndWrite, GotCaught, EndRead, Report, AnswerNow, Hold}
@@ -372,10 +372,7 @@ module _ {V : Type 0} (c : Setting V) (L : Lawful c) (f : ℕ) (ok : c.system.al
                 (λ _. (ready_voters c i j v s, gd.1, λ k l u e. ready_voted i j v k gd.0 u e));
           }))
           (All-append (Honest g) s.pool _ (pool_grown h g w _ T.honest)
-          (tt, all_of_map (λ k. CatchUpDone i k j x) (λ k. tt) _))
-        where
-          all_of_map : (m : ℕ → Message V) → ((k : ℕ) → Honest (note c f v₀ (TakeValue i j v) s h) (m k)) → (l : List ℕ) → All (Honest (note c f v₀ (TakeValue i j v) s h)) (map m l)
-          all_of_map m a l = All-map (Honest (note c f v₀ (TakeValue i j v) s h)) m l (all_of (λ k. Honest (note c f v₀ (TakeValue i j v) s h) (m k)) l a)
+          (all_and_each (Honest g) _ (λ k. CatchUpDone i k j x) _ tt (λ k. tt)))
 
       kept_begin_write : (i : ℕ) (v : V) → Guard c f (StartWrite i v) s → Kept h (apply c f (StartWrite i v) s) (note c f v₀ (StartWrite i v) s h)
       kept_begin_write i v gd =
