@@ -4,7 +4,7 @@ use Rattle.std.proofs.lemmas.Bool.{cases_lt, cases_eq}
 use Rattle.std.proofs.lemmas.Bool.Decides.{nat_tests}
 use Rattle.machine.specs.State.{Setting, Cell, State, number, put, put_pair, fresh_cell}
 use Rattle.machine.specs.declared.station.Station.{Station}
-use Rattle.machine.proofs.Tables.{put_same, put_other, put_grows, put_pair_all, put_pair_both, put_pair_same, put_pair_grows, cases_le}
+use Rattle.machine.proofs.Tables.{put_same, put_other, put_grows, put_pair_all, put_pair_both, put_pair_same, put_pair_grows}
 use Rattle.machine.proofs.Acts.{Act, Elsewhere, Drop, StartWrite, StartRead, SendEcho, GotEcho, GotReady, SendReady, TakeValue, GotReport, Freshen, GotDone, EndWrite, GotCaught, EndRead, Report, AnswerNow, Hold}
 use Rattle.machine.proofs.Acts.{In, apply, Guard, Foreign}
 use Rattle.machine.proofs.Frames.{Casts, Asks, casts_send_echo, casts_got_echo, casts_got_ready, casts_send_ready, asks_begin_read, asks_got_report, asks_freshen, asks_got_done, asks_end_write, asks_got_caught, asks_end_read, asks_report, asks_answer, asks_hold}
@@ -200,14 +200,14 @@ module _ {V : Type 0} (c : Setting V) (f : ℕ) (v₀ : V) where
             → (u : V) × (put_pair i (suc (s.station i).written) (Some v) h.published a y ≡ Some u)
         past a q y l u =
             ⊎_elim
-            (λ old. let o = (R.wrote a q).past_is y l old in
-            (o.0, put_pair_grows h.published i (suc (s.station i).written) v ((R.wrote i e).ahead_is (suc (s.station i).written) (omega arith)) a y o.0 o.1))
             (λ new. ⊎_elim
             (λ ai. let y' : y ≡ suc (s.station i).written = omega (arith, new, u, ap (put i (suc (s.station i).written) (λ b. (s.station b).written)) ai, put_same (λ b. (s.station b).written) i (suc (s.station i).written), ap (λ b. (s.station b).written) ai) in
             (v, ap₂ (put_pair i (suc (s.station i).written) (Some v) h.published) ai y' ∙ put_pair_same h.published i (suc (s.station i).written) (Some v)))
             (λ ne. absurd (omega (arith, new, u, put_other (λ b. (s.station b).written) i (suc (s.station i).written) a ne)))
             (cases_eq a i))
-            (cases_le y (s.station a).written)
+            (λ old. let o = (R.wrote a q).past_is y l old in
+            (o.0, put_pair_grows h.published i (suc (s.station i).written) v ((R.wrote i e).ahead_is (suc (s.station i).written) (omega arith)) a y o.0 o.1))
+            (cases_lt (s.station a).written y)
 
     kept_take_value : (i j : ℕ) (v : V) → In f i → Kept s h (apply c f (TakeValue i j v) s) (note (TakeValue i j v) s h)
     kept_take_value i j v e =

@@ -99,8 +99,7 @@ module _ {V : Type 0} (c : Setting V) where
   taking : (s : State V) (i j : ℕ) (v : V) → i < s.figures.stations → j < s.figures.stations → Named s → Named (take_value i j v s)
   taking s i j v li lj h =
       record {
-        messages = All-append (Names s.figures.stations) s.pool _ h.messages (All-cons (Names s.figures.stations) _ _
-            (li, lj)
+        messages = All-append (Names s.figures.stations) s.pool _ h.messages (All-cons (Names s.figures.stations) _ _ (li, lj)
             (all_of_below (Names s.figures.stations) (λ k. CatchUpDone i k j (suc (number s i j))) s.figures.stations (λ k l. (li, l, lj)) _
             (All-filter (λ k. eqb (s.held i k j) (suc (number s i j))) (λ k. k < s.figures.stations) (range_with_len 0 s.figures.stations) (counting_below 0 s.figures.stations s.figures.stations (omega arith)))));
         stages = h.stages;

@@ -1,7 +1,7 @@
 -- What an open operation of a station inside waits for: each answer that it lacks is on its way, or will be sent.
 use Rattle.std.proofs.Common.{◌≡◌, ℕ, suc, ◌<◌, ◌≤◌, max, true, eqb, ◌⊎◌, List, [], ◌∷◌, ◌++◌, Some, sym, refl, ap, ◌∙◌, subst, ap₂, inl, inr, ⊎_elim, append-nil, get_or, arith}
 use Rattle.std.specs.List.{range_with_len, remove as removed, All, slice_get}
-use Rattle.std.proofs.lemmas.Bool.{both_ways, cases_eq, cond_both, and_parts, eqb-true, eq-eqb}
+use Rattle.std.proofs.lemmas.Bool.{both_ways, cases_lt, cases_eq, cond_both, and_parts, eqb-true, eq-eqb}
 use Rattle.std.proofs.lemmas.List.Elements.{All-nil, All-append, All-push, All-weaker}
 use Rattle.station_set.specs.Sets.{has, with_station}
 use Rattle.machine.specs.declared.message.Message.{Message}
@@ -12,7 +12,7 @@ use Rattle.machine.specs.declared.station.Station.{Station}
 use Rattle.machine.specs.declared.call.Opening.{Opening}
 use Rattle.machine.specs.State.{Setting, Lawful, Cell, State, number, put, fresh_cell, remove}
 use Rattle.machine.specs.Calls.{sender, receiver, opened}
-use Rattle.machine.proofs.Tables.{put_all, put_else, put_same, put_pair_same, put_pair_other, put_triple_else, all_nth, all_removed, all_to_all, all_and_each, Mem, mem_left, mem_right, mem_map, mem_kept, mem_counting, mem_to_all, mem_removed, cases_le}
+use Rattle.machine.proofs.Tables.{put_all, put_else, put_same, put_pair_same, put_pair_other, put_triple_else, all_nth, all_removed, all_to_all, all_and_each, Mem, mem_left, mem_right, mem_map, mem_kept, mem_counting, mem_to_all, mem_removed}
 use Rattle.machine.proofs.Pools.{swap_all, swap_mem}
 use Rattle.machine.proofs.Quorums.{joined, joined_before}
 use Rattle.machine.proofs.Acts.{Act, Elsewhere, Drop, StartWrite, StartRead, SendEcho, GotEcho, GotReady, SendReady, TakeValue, GotReport, Freshen, GotDone, EndWrite, GotCaught, EndRead, Report, AnswerNow, Hold}
@@ -516,12 +516,13 @@ module _ {V : Type 0} (c : Setting V) (L : Lawful c) (f : ℕ) (v₀ : V) where
         on : (i k : ℕ) → In f i → In f k → i < c.system.stations → (o : Stage V) → Awaits s i k o → Awaits t i k o
         on i k e q l Idle w = tt
         on i k e q l (Writing y done) w = λ u.
-            ⊎_elim (λ old. ⊎_elim (λ m. inl (stays (WriteDone k i y) m)) inr (w old))
+            ⊎_elim
             (λ new. ⊎_elim
             (λ p. let ey : y ≡ x = omega (arith, u, at_entry k i p, new, ap₂ (number s) p.0 p.1) in
             inl (mem_right (WriteDone k i y) s.pool _ (inl (ap₂ (λ m n. WriteDone m n x) (sym p.0) (sym p.1) ∙ ap (λ z. WriteDone k i z) (sym ey)))))
             (λ ne. absurd (omega (arith, u, elsewhere k i ne, new))) (pair k i))
-            (cases_le y (number s k i))
+            (λ old. ⊎_elim (λ m. inl (stays (WriteDone k i y) m)) inr (w old))
+            (cases_lt (number s k i) y)
         on i k e q l (Querying j r reported) w =
             ⊎_elim (λ m. inl (stays (Read i k j r) m)) (λ y. ⊎_elim (λ m. inr (inl (m.0, stays (StateOf k i j r m.0) m.1))) (λ m. inr (inr m)) y) w
         on i k e q l (Catching j y u done) w =

@@ -95,9 +95,6 @@ put_pair_from {A} f i x v a y w =
 
 -- Small cases
 
-pub cases_le : (a b : ℕ) → (a ≤ b) ⊎ (b < a)
-cases_le a b = ⊎_elim inr inl (cases_lt b a)
-
 pub is_absent : {A : Type 0} (o : Option A) → is_none o ≡ true → o ≡ None
 is_absent None e = refl
 is_absent (Some v) e = cc

@@ -13,7 +13,7 @@ use Rattle.machine.specs.Calls.{sender, receiver, ahead, is_idle, Lent, open_rea
 use Rattle.machine.specs.Runs.{Run, after, at_end, call_at, answer_at, is_done, is_write_of, is_read_of, begins_operation, ends_operation, WriteBegins, AtRest}
 use Rattle.machine.specs.Properties.{Agreement, Validity, Totality, Delivery, Broadcast, BroadcastProperties}
 use Rattle.machine.specs.Order.{Order, Rest, OrderAndRest}
-use Rattle.machine.proofs.Tables.{Mem, mem_nth, put_same, cases_le}
+use Rattle.machine.proofs.Tables.{Mem, mem_nth, put_same}
 use Rattle.machine.proofs.Voices.{one_value, taken_published}
 use Rattle.machine.proofs.Moments.{Goes_on}
 use Rattle.machine.proofs.Along.{climb, made, no_answer, history_at, holds_at, later_at, Along, goes, begins_writing, begins_reading, ends_writing, ends_reading, along, begun_write, published_from, published_to, takes_to, read_began, write_began}
@@ -40,11 +40,11 @@ module _ {V : Type 0} (R : Run V) (L : Lawful R.setting) (ok : R.setting.system.
   agreement : Agreement R
   agreement i k j x p q v w hi hk t u =
       ⊎_elim
-      (λ le. one_value c L faulty ok R.opening.value (after R (suc q)) (history_at R L ok (suc q)) (holds_at R L ok (suc q)).recorded (holds_at R L ok (suc q)).truthful
-      i k j x v w (inside R L ok i hi) (inside R L ok k hk) (takes_to R L ok i j x p (suc q) v (inside R L ok i hi) t (omega arith)) (takes_to R L ok k j x q (suc q) w (inside R L ok k hk) u (omega arith)))
       (λ lt. one_value c L faulty ok R.opening.value (after R (suc p)) (history_at R L ok (suc p)) (holds_at R L ok (suc p)).recorded (holds_at R L ok (suc p)).truthful
       i k j x v w (inside R L ok i hi) (inside R L ok k hk) (takes_to R L ok i j x p (suc p) v (inside R L ok i hi) t (omega arith)) (takes_to R L ok k j x q (suc p) w (inside R L ok k hk) u (omega arith)))
-      (cases_le p q)
+      (λ le. one_value c L faulty ok R.opening.value (after R (suc q)) (history_at R L ok (suc q)) (holds_at R L ok (suc q)).recorded (holds_at R L ok (suc q)).truthful
+      i k j x v w (inside R L ok i hi) (inside R L ok k hk) (takes_to R L ok i j x p (suc q) v (inside R L ok i hi) t (omega arith)) (takes_to R L ok k j x q (suc q) w (inside R L ok k hk) u (omega arith)))
+      (cases_lt q p)
 
   -- a write is begun before it is taken
   validity : Validity R
