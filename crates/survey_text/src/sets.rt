@@ -16,6 +16,7 @@ impl fmt::Display for Braced {
     #[tactic(auto, using(crate::proofs::Members::members_written))]
     fn fmt<W: fmt::Write>(&self, f: &mut fmt::Formatter<W>) -> fmt::Result {
         write!(f, "{{")?;
+        // A `for` over the range filtered by `contains` was tried: this kit makes no proof of one in a generic function.
         for s in 0..ROOM {
             if contains(self.0, s) {
                 write!(f, " {s}")?;
