@@ -37,6 +37,7 @@ pub enum Decline {
 }
 
 impl Decline {
+    // `as` is the language's own conversion of an enum; a `From` would say the same again.
     pub fn number(self) -> u8
         ensures { result ≡ number_of self }
     {

@@ -43,7 +43,7 @@ pub fn union(a: u16, b: u16) -> u16
     a | b
 }
 
-// The stations of both sets.
+// The stations of both sets. As `union`, it is one operator: a function that is handed the operator would be longer.
 pub fn common(a: u16, b: u16) -> u16
     ensures { result ≡ common a b }
 {
