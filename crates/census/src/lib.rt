@@ -26,6 +26,8 @@ pub struct Survey {
     pub quorums: u32,
 }
 
+// A system and a family go together through this file. In a struct of the two each clause would read
+// `self.now.system.now`, so they stay two parameters.
 fn is_in<S: QuorumSystem>(system: &S, family: Family, set: u16) -> bool
     ensures { result ≡ family_of family (S.families system.now) set }
 {
@@ -66,8 +68,7 @@ fn list_outermost<S: QuorumSystem>(system: &S, family: Family, sets: &mut Vec<u1
     requires room { 2 ^ (S.families system.now).stations ≤ vec_capacity sets.old }
     ensures { Exactly (Outermost family (S.families system.now)) sets.new.items }
 {
-    // A `for` over the range filtered by `is_outermost` was tried: this kit makes no proof of one whose closure asks a generic
-    // system.
+    // A `for` over the range filtered by `is_outermost` was tried: this kit makes no proof of one in a generic function.
     for mask in 0..count_masks(system) {
         let set = mask as u16;
         if is_outermost(system, family, set) {

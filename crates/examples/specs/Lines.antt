@@ -1,5 +1,6 @@
 -- Schedules in lines, and how the machine's definitions play them.
-use Rattle.std.specs.Prelude.{ℕ, suc, ◌-◌, Bool, cond, ◌&&◌, List, [], ◌∷◌, length, drop, Some, None, ◌==◌}
+use Rattle.std.specs.Prelude.{ℕ, suc, ◌-◌, Bool, cond, ◌&&◌, List, [], ◌∷◌, length, drop, Some, None, ◌==◌, Ok, Err, Result}
+use Rattle.decline.specs.declared.Decline.{Decline}
 use Rattle.decline.specs.Numbers.{number_of}
 use Rattle.machine.specs.declared.message.Message.{Message}
 use Rattle.machine.specs.declared.station.Stage.{Stage}
@@ -7,7 +8,7 @@ use Rattle.machine.specs.declared.call.Forgery.{Forgery}
 use Rattle.machine.specs.declared.call.Call.{Call}
 use Rattle.machine.specs.declared.call.Call.TheVariants.{Take}
 use Rattle.machine.specs.declared.call.Answer.{Answer}
-use Rattle.machine.specs.declared.call.Answer.TheVariants.{Done, WriteEnded, ReadEnded, Counted, Declined}
+use Rattle.machine.specs.declared.call.Answer.TheVariants.{Done, WriteEnded, ReadEnded, Counted}
 use Rattle.machine.specs.State.{Setting, State, number}
 use Rattle.machine.specs.Calls.{Lent, Bench, spelled, call_on}
 use Rattle.machine.specs.Runs.{is_done}
@@ -21,12 +22,12 @@ pub data Said : Type 0 where
   counted : (waiting takeable : ℕ) → Said
   declined : (number : ℕ) → Said
 
-abbrev pub said : Answer ℕ → Said
-said Done = done
-said (WriteEnded i x) = write_ended i x
-said (ReadEnded i j x v) = read_ended i j x v
-said (Counted waiting takeable) = counted waiting takeable
-said (Declined reason) = declined (number_of reason)
+abbrev pub said : Result (Answer ℕ) Decline → Said
+said (Ok Done) = done
+said (Ok (WriteEnded i x)) = write_ended i x
+said (Ok (ReadEnded i j x v)) = read_ended i j x v
+said (Ok (Counted waiting takeable)) = counted waiting takeable
+said (Err reason) = declined (number_of reason)
 
 -- A schedule is a list of lines, played from a closed bench on.
 pub data Line : Type 0 where

@@ -1,5 +1,6 @@
 -- Rows of the table of examples: what each claims, by the definitions that the contracts of the code use.
-use Rattle.std.specs.Prelude.{◌≡◌, ℕ, Bool, not, List, [], ◌∷◌, map, Some, None, Option, slice_index}
+use Rattle.std.specs.Prelude.{◌≡◌, ℕ, Bool, not, List, [], ◌∷◌, map, Some, None, Option, slice_index, Ok, Err, Result}
+use Rattle.decline.specs.declared.Decline.{Decline}
 use Rattle.std.specs.Option.{option_map}
 use Rattle.decline.specs.Numbers.{number_of}
 use Rattle.station_set.specs.Sets.{first}
@@ -7,7 +8,7 @@ use Rattle.quorum.specs.Reasons.{decline_of}
 use Rattle.machine.specs.declared.call.Forgery.{Forgery}
 use Rattle.machine.specs.declared.call.Call.TheVariants.{BeginWrite, Take, Forge}
 use Rattle.machine.specs.declared.call.Answer.{Answer}
-use Rattle.machine.specs.declared.call.Answer.TheVariants.{Done, WriteEnded, ReadEnded, Counted, Declined}
+use Rattle.machine.specs.declared.call.Answer.TheVariants.{Done, WriteEnded, ReadEnded, Counted}
 use Rattle.machine.specs.State.{Setting, State}
 use Rattle.machine.specs.Publishing.{is_none}
 use Rattle.machine.specs.Operations.{Outcome, fresh_reports, on_write_done}
@@ -37,20 +38,20 @@ abbrev pub forged_ready : ℕ → Forgery ℕ
 forged_ready x = record { kind = 3; sender = 3; receiver = 0; register = 0; number = x; read = 0; value = 7 }
 
 -- the number of a decline
-abbrev pub declined_with : Answer ℕ → Option ℕ
-declined_with Done = None
-declined_with (WriteEnded i x) = None
-declined_with (ReadEnded i j x v) = None
-declined_with (Counted waiting takeable) = None
-declined_with (Declined reason) = Some (number_of reason)
+abbrev pub declined_with : Result (Answer ℕ) Decline → Option ℕ
+declined_with (Ok Done) = None
+declined_with (Ok (WriteEnded i x)) = None
+declined_with (Ok (ReadEnded i j x v)) = None
+declined_with (Ok (Counted waiting takeable)) = None
+declined_with (Err reason) = Some (number_of reason)
 
 -- the number of the write that ended
-abbrev pub ended_write : Answer ℕ → Option ℕ
-ended_write Done = None
-ended_write (WriteEnded i x) = Some x
-ended_write (ReadEnded i j x v) = None
-ended_write (Counted waiting takeable) = None
-ended_write (Declined reason) = None
+abbrev pub ended_write : Result (Answer ℕ) Decline → Option ℕ
+ended_write (Ok Done) = None
+ended_write (Ok (WriteEnded i x)) = Some x
+ended_write (Ok (ReadEnded i j x v)) = None
+ended_write (Ok (Counted waiting takeable)) = None
+ended_write (Err reason) = None
 
 -- station 0 has begun its first write
 abbrev pub begun : System → Outcome ℕ

@@ -1,6 +1,6 @@
 -- Each call is a chain of small acts, each under its guard. Stations outside a given set may do anything:
 -- all that they do is one act, which leaves the tables of the others alone.
-use Rattle.std.proofs.Common.{◌≡◌, ℕ, suc, ◌<◌, ◌≤◌, max, Bool, true, false, cond, not, ◌&&◌, eqb, ltb, leb, ◌⊎◌, List, [], ◌∷◌, Some, None, Option, sym, refl, ap, ◌∙◌, inl, inr, ⊎_elim, arith}
+use Rattle.std.proofs.Common.{◌≡◌, ℕ, suc, ◌<◌, ◌≤◌, max, Bool, true, false, cond, not, ◌&&◌, eqb, ltb, leb, ◌⊎◌, List, [], ◌∷◌, Some, None, Option, sym, refl, ap, ◌∙◌, inl, inr, ⊎_elim, arith, Ok, Err, Result}
 use Rattle.std.specs.List.{remove as removed, All, slice_get}
 use Rattle.std.proofs.lemmas.Bool.{cond_both, and_parts, and_cases, not-true, not-false, leb-true, leb-false, ltb-false, eqb-true, cases_Bool, both_ways}
 use Rattle.std.proofs.lemmas.Bool.Decides.{nat_tests}
@@ -15,7 +15,7 @@ use Rattle.machine.specs.declared.call.Forgery.{Forgery}
 use Rattle.machine.specs.declared.call.Call.{Call}
 use Rattle.machine.specs.declared.call.Call.TheVariants.{Open, BeginWrite, BeginRead, Take, Forge, Withdraw, Count}
 use Rattle.machine.specs.declared.call.Answer.{Answer}
-use Rattle.machine.specs.declared.call.Answer.TheVariants.{Done, WriteEnded, ReadEnded, Counted, Declined}
+use Rattle.machine.specs.declared.call.Answer.TheVariants.{Done, WriteEnded, ReadEnded, Counted}
 use Rattle.machine.specs.State.{Setting, Cell, State, number, is_faulty, put_triple, with_cell, with_stage, with_held, remove, send}
 use Rattle.machine.specs.Operations.{Outcome, leaves, fresh_reports, start_catching, freshness_at, write_done_at, keep_report, state_at, catch_up_done_at}
 use Rattle.machine.specs.Publishing.{mark_readied, vote_echo, vote_ready, echo_voters, ready_voters, send_echo, send_ready, take_value, on_init, is_none, count_echoes, on_echo, join_readies, count_readies, on_ready}
@@ -159,20 +159,20 @@ module _ {V : Type 0} (c : Setting V) (f : ℕ) where
   then (more a n g e) d = more a n g (then e d)
 
   -- an answer that ends no operation of a station inside
-  abbrev pub Silent : Answer V → Type 0
-  Silent Done = Unit {0}
-  Silent (WriteEnded i x) = has f i ≡ true
-  Silent (ReadEnded i j x v) = has f i ≡ true
-  Silent (Counted waiting takeable) = Unit {0}
-  Silent (Declined reason) = Unit {0}
+  abbrev pub Silent : Result (Answer V) Decline → Type 0
+  Silent (Ok Done) = Unit {0}
+  Silent (Ok (WriteEnded i x)) = has f i ≡ true
+  Silent (Ok (ReadEnded i j x v)) = has f i ≡ true
+  Silent (Ok (Counted waiting takeable)) = Unit {0}
+  Silent (Err reason) = Unit {0}
 
   -- what a call comes to that begins no operation of a station inside
   pub data Went (s : State V) : Outcome V → Type 0 where
     quietly : {o : Outcome V} → Chain s o.state → Silent o.answer → Went s o
     write_ends : (p i k x done : ℕ) → Guard (EndWrite p i k x done) s
-        → Went s (record { state = with_stage i Idle (remove p s); answer = WriteEnded i x })
+        → Went s (record { state = with_stage i Idle (remove p s); answer = Ok (WriteEnded i x) })
     read_ends : (p i k j x : ℕ) (v : V) (done : ℕ) → Guard (EndRead p i k j x v done) s
-        → Went s (record { state = with_stage i Idle (remove p s); answer = ReadEnded i j x v })
+        → Went s (record { state = with_stage i Idle (remove p s); answer = Ok (ReadEnded i j x v) })
 
   drop : (p : ℕ) (s : State V) (m : Message V) → At s p m → Spent s m → Chain s (remove p s)
   drop p s m e w = one (Drop p m) s tt (e, w)
@@ -341,12 +341,12 @@ module _ {V : Type 0} (c : Setting V) (f : ℕ) where
         pool_change = (removed s.pool p, w.sent, w.pool_is, sent_by (receiver m) h w.sent w.by, inr (p, m, e, inr h, refl));
       }
 
-  silent_outside : (i : ℕ) → has f i ≡ true → (a : Answer V) → About i a → Silent a
-  silent_outside i h Done w = tt
-  silent_outside i h (WriteEnded k x) w = ap (has f) w ∙ h
-  silent_outside i h (ReadEnded k j x v) w = ap (has f) w ∙ h
-  silent_outside i h (Counted waiting takeable) w = tt
-  silent_outside i h (Declined reason) w = tt
+  silent_outside : (i : ℕ) → has f i ≡ true → (a : Result (Answer V) Decline) → About i a → Silent a
+  silent_outside i h (Ok Done) w = tt
+  silent_outside i h (Ok (WriteEnded k x)) w = ap (has f) w ∙ h
+  silent_outside i h (Ok (ReadEnded k j x v)) w = ap (has f) w ∙ h
+  silent_outside i h (Ok (Counted waiting takeable)) w = tt
+  silent_outside i h (Err reason) w = tt
 
   -- Calls
 
@@ -376,11 +376,11 @@ module _ {V : Type 0} (c : Setting V) (f : ℕ) where
   pass_not false o d e = absurd (let z : ◌≡◌ {A = ℕ} 0 1 = cc in omega arith)
 
   pub unless_both : (o : Option Decline) (u : Outcome V) (s : State V) (P : Outcome V → Type 0)
-      → (o ≡ None → P u) → ((d : Decline) → P (record { state = s; answer = Declined d })) → P (unless o u s)
+      → (o ≡ None → P u) → ((d : Decline) → P (record { state = s; answer = Err d })) → P (unless o u s)
   unless_both None u s P g h = g refl
   unless_both (Some d) u s P g h = h d
 
-  declined : (s : State V) (d : Decline) → Went s (record { state = s; answer = Declined d })
+  declined : (s : State V) (d : Decline) → Went s (record { state = s; answer = Err d })
   declined s d = quietly stay tt
 
   receive_went : (p : ℕ) (s : State V) → Fits s → (o : Option (Message V)) → slice_get s.pool p ≡ o → receive_decline s o ≡ None → Went s (receive c p s o)

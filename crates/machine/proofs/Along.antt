@@ -1,5 +1,6 @@
 -- Along a run: histories, operations from their beginning to their end, and what was taken when.
-use Rattle.std.proofs.Common.{◌≡◌, ℕ, zero, suc, ◌+◌, ◌<◌, ◌≤◌, Bool, true, false, ◌&&◌, ◌||◌, ◌⊎◌, List, [], ◌∷◌, length, take, Some, None, Option, sym, refl, ap, ◌∙◌, subst, inl, inr, ⊎_elim, arith}
+use Rattle.std.proofs.Common.{◌≡◌, ℕ, zero, suc, ◌+◌, ◌<◌, ◌≤◌, Bool, true, false, ◌&&◌, ◌||◌, ◌⊎◌, List, [], ◌∷◌, length, take, Some, None, Option, sym, refl, ap, ◌∙◌, subst, inl, inr, ⊎_elim, arith, Ok, Result}
+use Rattle.decline.specs.declared.Decline.{Decline}
 use Rattle.std.specs.List.{slice_get}
 use Rattle.std.proofs.lemmas.Bool.{and_right, both_ways, cases_lt, and_from, eq-eqb, cases_Bool}
 use Rattle.station_set.specs.Below.{count_below}
@@ -48,7 +49,7 @@ past_end c s [] (suc p) l = refl
 past_end c s (call ∷ calls) zero l = absurd (omega arith)
 past_end c s (call ∷ calls) (suc p) l = past_end c (step c s call).state calls p (omega arith)
 
-pub no_answer : {V : Type 0} (c : Setting V) (s : State V) (calls : List (Call V)) (p : ℕ) (a : Answer V) → slice_get (answers c s calls) p ≡ Some a → p < length calls
+pub no_answer : {V : Type 0} (c : Setting V) (s : State V) (calls : List (Call V)) (p : ℕ) (a : Result (Answer V) Decline) → slice_get (answers c s calls) p ≡ Some a → p < length calls
 no_answer c s [] p a e = absurd (grind arith)
 no_answer c s (call ∷ calls) zero a e = omega arith
 no_answer c s (call ∷ calls) (suc p) a e = let l = no_answer c (step c s call).state calls p a e in omega arith
@@ -87,7 +88,7 @@ module _ {V : Type 0} (R : Run V) (L : Lawful R.setting) (ok : R.setting.system.
   abbrev Publishes : ℕ → History V → History V → Type 0
   Publishes p h g =
       (g.published ≡ h.published)
-      ⊎ ((i : ℕ) × (v : V) × In f i × (call_at R p ≡ Some (BeginWrite i v)) × (answer_at R p ≡ Some Done)
+      ⊎ ((i : ℕ) × (v : V) × In f i × (call_at R p ≡ Some (BeginWrite i v)) × (answer_at R p ≡ Some (Ok Done))
       × (g.published ≡ put_pair i (suc ((after R p).station i).written) (Some v) h.published))
 
   record Next (p : ℕ) (h g : History V) : Type 0 where
@@ -100,7 +101,7 @@ module _ {V : Type 0} (R : Run V) (L : Lawful R.setting) (ok : R.setting.system.
     on : On c L f ok v₀ s h o.state g
     published :
         (g.published ≡ h.published)
-        ⊎ ((i : ℕ) × (v : V) × In f i × (call ≡ BeginWrite i v) × (o.answer ≡ Done) × (g.published ≡ put_pair i (suc (s.station i).written) (Some v) h.published))
+        ⊎ ((i : ℕ) × (v : V) × In f i × (call ≡ BeginWrite i v) × (o.answer ≡ Ok Done) × (g.published ≡ put_pair i (suc (s.station i).written) (Some v) h.published))
 
   next_of : (s : State V) (h : History V) → Held s h → (call : Call V) (o : Outcome V) → Stepped c f s call o → (g : History V) × NextOf s h call o g
   next_of s h H call o (went (quietly d silent)) = let w = chain_holds c L f ok v₀ h d H in (w.0, record { on = w.1; published = inl w.2 })
@@ -164,13 +165,13 @@ module _ {V : Type 0} (R : Run V) (L : Lawful R.setting) (ok : R.setting.system.
   -- what call p does to the operation of station i
   pub data Along (i p : ℕ) : Type 0 where
     goes : Steady c f i (after R p) (after R (suc p)) → ends_operation i (answer_at R p) ≡ false → begins_operation R i p ≡ false → Along i p
-    begins_writing : (v : V) → call_at R p ≡ Some (BeginWrite i v) → answer_at R p ≡ Some Done → i < c.system.stations → ((after R p).station i).stage ≡ Idle
+    begins_writing : (v : V) → call_at R p ≡ Some (BeginWrite i v) → answer_at R p ≡ Some (Ok Done) → i < c.system.stations → ((after R p).station i).stage ≡ Idle
         → after R (suc p) ≡ begin_write i v (after R p) → Along i p
-    begins_reading : (j : ℕ) → call_at R p ≡ Some (BeginRead i j) → answer_at R p ≡ Some Done → i < c.system.stations → ((after R p).station i).stage ≡ Idle
+    begins_reading : (j : ℕ) → call_at R p ≡ Some (BeginRead i j) → answer_at R p ≡ Some (Ok Done) → i < c.system.stations → ((after R p).station i).stage ≡ Idle
         → after R (suc p) ≡ begin_read i j (after R p) → Along i p
-    ends_writing : (q k x done : ℕ) → Guard c f (EndWrite q i k x done) (after R p) → answer_at R p ≡ Some (WriteEnded i x)
+    ends_writing : (q k x done : ℕ) → Guard c f (EndWrite q i k x done) (after R p) → answer_at R p ≡ Some (Ok (WriteEnded i x))
         → after R (suc p) ≡ with_stage i Idle (remove q (after R p)) → Along i p
-    ends_reading : (q k j x : ℕ) (v : V) (done : ℕ) → Guard c f (EndRead q i k j x v done) (after R p) → answer_at R p ≡ Some (ReadEnded i j x v)
+    ends_reading : (q k j x : ℕ) (v : V) (done : ℕ) → Guard c f (EndRead q i k j x v done) (after R p) → answer_at R p ≡ Some (Ok (ReadEnded i j x v))
         → after R (suc p) ≡ with_stage i Idle (remove q (after R p)) → Along i p
 
   along_call : (i p : ℕ) → In f i → (call : Call V) → call_at R p ≡ Some call → after R (suc p) ≡ (step c (after R p) call).state
@@ -266,8 +267,8 @@ module _ {V : Type 0} (R : Run V) (L : Lawful R.setting) (ok : R.setting.system.
           absurd (both_ways _ none (and_from _ _ (ap (λ z. is_write_of i z || is_read_of i z) w.call ∙ ap (λ t. t || false) (eq-eqb i i refl)) (ap is_done w.answer)))
       go (begins_writing u ec ea l idle t) = let q : Some (BeginWrite i u) ≡ Some (BeginWrite i v) = sym ec ∙ w.call in let q' : u ≡ v = cc in t ∙ ap (λ z. begin_write i z (after R b)) q'
       go (begins_reading j ec ea l idle t) = absurd (let q : Some (BeginRead i j) ≡ Some (BeginWrite i v) = sym ec ∙ w.call in grind arith)
-      go (ends_writing q k y done gd ea t) = absurd (let z : Some (WriteEnded i y) ≡ Some Done = sym ea ∙ w.answer in grind arith)
-      go (ends_reading q k j y u done gd ea t) = absurd (let z : Some (ReadEnded i j y u) ≡ Some Done = sym ea ∙ w.answer in grind arith)
+      go (ends_writing q k y done gd ea t) = absurd (let z : Some (Ok (WriteEnded i y)) ≡ Some (Ok Done) = sym ea ∙ w.answer in grind arith)
+      go (ends_reading q k j y u done gd ea t) = absurd (let z : Some (Ok (ReadEnded i j y u)) ≡ Some (Ok Done) = sym ea ∙ w.answer in grind arith)
 
   pub published_to : (i b x : ℕ) (v : V) → In f i → WriteBegins R i b x v → (history_at (suc b)).published i x ≡ Some v
   published_to i b x v e w =
@@ -364,7 +365,7 @@ module _ {V : Type 0} (R : Run V) (L : Lawful R.setting) (ok : R.setting.system.
   origin i (suc p) e = origin_step i p e (origin i p e) (along i p e)
 
   -- an answer that ends an operation tells that it ended
-  pub read_end : (i e j x : ℕ) (v : V) → In f i → answer_at R e ≡ Some (ReadEnded i j x v)
+  pub read_end : (i e j x : ℕ) (v : V) → In f i → answer_at R e ≡ Some (Ok (ReadEnded i j x v))
       → (q : ℕ) × (k : ℕ) × (done : ℕ) × Guard c f (EndRead q i k j x v done) (after R e)
   read_end i e j x v inside a = go (along i e inside)
     where
@@ -373,17 +374,17 @@ module _ {V : Type 0} (R : Run V) (L : Lawful R.setting) (ok : R.setting.system.
 
       go : Along i e → Goal
       go (goes w n b) = absurd (both_ways _ n (ap (ends_operation i) a ∙ eq-eqb i i refl))
-      go (begins_writing u ec ea l idle t) = absurd (let z : Some Done ≡ Some (ReadEnded i j x v) = sym ea ∙ a in grind arith)
-      go (begins_reading j' ec ea l idle t) = absurd (let z : Some Done ≡ Some (ReadEnded i j x v) = sym ea ∙ a in grind arith)
-      go (ends_writing q k y done gd ea t) = absurd (let z : Some (WriteEnded i y) ≡ Some (ReadEnded i j x v) = sym ea ∙ a in grind arith)
+      go (begins_writing u ec ea l idle t) = absurd (let z : Some (Ok Done) ≡ Some (Ok (ReadEnded i j x v)) = sym ea ∙ a in grind arith)
+      go (begins_reading j' ec ea l idle t) = absurd (let z : Some (Ok Done) ≡ Some (Ok (ReadEnded i j x v)) = sym ea ∙ a in grind arith)
+      go (ends_writing q k y done gd ea t) = absurd (let z : Some (Ok (WriteEnded i y)) ≡ Some (Ok (ReadEnded i j x v)) = sym ea ∙ a in grind arith)
       go (ends_reading q k j' y u done gd ea t) =
-          let z : Some (ReadEnded i j' y u) ≡ Some (ReadEnded i j x v) = sym ea ∙ a in
+          let z : Some (Ok (ReadEnded i j' y u)) ≡ Some (Ok (ReadEnded i j x v)) = sym ea ∙ a in
           let ej : j' ≡ j = cc in
           let ey : y ≡ x = cc in
           let eu : u ≡ v = cc in
           (q, k, done, rw (ej, ey, eu) at gd)
 
-  pub write_end : (i e x : ℕ) → In f i → answer_at R e ≡ Some (WriteEnded i x)
+  pub write_end : (i e x : ℕ) → In f i → answer_at R e ≡ Some (Ok (WriteEnded i x))
       → (q : ℕ) × (k : ℕ) × (done : ℕ) × Guard c f (EndWrite q i k x done) (after R e)
   write_end i e x inside a = go (along i e inside)
     where
@@ -392,22 +393,22 @@ module _ {V : Type 0} (R : Run V) (L : Lawful R.setting) (ok : R.setting.system.
 
       go : Along i e → Goal
       go (goes w n b) = absurd (both_ways _ n (ap (ends_operation i) a ∙ eq-eqb i i refl))
-      go (begins_writing u ec ea l idle t) = absurd (let z : Some Done ≡ Some (WriteEnded i x) = sym ea ∙ a in grind arith)
-      go (begins_reading j' ec ea l idle t) = absurd (let z : Some Done ≡ Some (WriteEnded i x) = sym ea ∙ a in grind arith)
-      go (ends_reading q k j y u done gd ea t) = absurd (let z : Some (ReadEnded i j y u) ≡ Some (WriteEnded i x) = sym ea ∙ a in grind arith)
+      go (begins_writing u ec ea l idle t) = absurd (let z : Some (Ok Done) ≡ Some (Ok (WriteEnded i x)) = sym ea ∙ a in grind arith)
+      go (begins_reading j' ec ea l idle t) = absurd (let z : Some (Ok Done) ≡ Some (Ok (WriteEnded i x)) = sym ea ∙ a in grind arith)
+      go (ends_reading q k j y u done gd ea t) = absurd (let z : Some (Ok (ReadEnded i j y u)) ≡ Some (Ok (WriteEnded i x)) = sym ea ∙ a in grind arith)
       go (ends_writing q k y done gd ea t) =
-          let z : Some (WriteEnded i y) ≡ Some (WriteEnded i x) = sym ea ∙ a in
+          let z : Some (Ok (WriteEnded i y)) ≡ Some (Ok (WriteEnded i x)) = sym ea ∙ a in
           let ey : y ≡ x = cc in
           (q, k, done, rw ey at gd)
 
   -- each end has a beginning
-  pub read_began : (i j e x : ℕ) (v : V) → In f i → answer_at R e ≡ Some (ReadEnded i j x v) → (i < c.system.stations) × ((b : ℕ) × CompletedRead R i j b e x v)
+  pub read_began : (i j e x : ℕ) (v : V) → In f i → answer_at R e ≡ Some (Ok (ReadEnded i j x v)) → (i < c.system.stations) × ((b : ℕ) × CompletedRead R i j b e x v)
   read_began i j e x v inside a =
       let w = read_end i e j x v inside a in
       let o = subst (Origin i e) w.3.1 (origin i e inside) in
       (o.2, (o.0, record { begins = o.3; later = o.1; ends = a; between = o.4 }))
 
-  pub write_began : (i e x : ℕ) → In f i → answer_at R e ≡ Some (WriteEnded i x) → (b : ℕ) × (v : V) × CompletedWrite R i b e x v
+  pub write_began : (i e x : ℕ) → In f i → answer_at R e ≡ Some (Ok (WriteEnded i x)) → (b : ℕ) × (v : V) × CompletedWrite R i b e x v
   write_began i e x inside a =
       let w = write_end i e x inside a in
       let o = subst (Origin i e) w.3.1 (origin i e inside) in

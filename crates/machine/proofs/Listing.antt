@@ -1,12 +1,13 @@
 -- The order of a register, as a list: for each number from 0 on the write of that number, then the completed reads
 -- that returned it, as they ended. No sorting is needed.
-use Rattle.std.proofs.Common.{◌≡◌, ℕ, zero, suc, ◌<◌, ◌≤◌, true, false, cond, not, ◌&&◌, eqb, ◌⊎◌, List, [], ◌∷◌, ◌++◌, length, get_or, take, Some, None, Option, sym, refl, ap, ◌∙◌, subst, ap₂, inl, inr, ⊎_elim, arith}
+use Rattle.std.proofs.Common.{◌≡◌, ℕ, zero, suc, ◌<◌, ◌≤◌, true, false, cond, not, ◌&&◌, eqb, ◌⊎◌, List, [], ◌∷◌, ◌++◌, length, get_or, take, Some, None, Option, sym, refl, ap, ◌∙◌, subst, ap₂, inl, inr, ⊎_elim, arith, Ok, Err, Result}
+use Rattle.decline.specs.declared.Decline.{Decline}
 use Rattle.std.specs.List.{All, slice_get}
 use Rattle.std.proofs.lemmas.Bool.{both_ways, cases_lt, cases_Bool, cond_both, cond-true, and_parts, and_from, eqb-true, eq-eqb, not-true, not_from_false, cases_order}
 use Rattle.std.proofs.lemmas.List.Elements.{All-nil, All-cons, All-head, All-tail, All-append, All-weaker}
 use Rattle.station_set.specs.Sets.{has}
 use Rattle.machine.specs.declared.call.Answer.{Answer}
-use Rattle.machine.specs.declared.call.Answer.TheVariants.{Done, WriteEnded, ReadEnded, Counted, Declined}
+use Rattle.machine.specs.declared.call.Answer.TheVariants.{Done, WriteEnded, ReadEnded, Counted}
 use Rattle.machine.specs.State.{Setting, Lawful, State, number}
 use Rattle.machine.specs.Runs.{Run, after, answer_at, Correct, CompletedWrite, CompletedRead, Takes}
 use Rattle.machine.specs.Calls.{opened}
@@ -187,13 +188,13 @@ module _ {V : Type 0} (R : Run V) (L : Lawful R.setting) (ok : R.setting.system.
 
   -- The list
 
-  abbrev entry : ℕ → ℕ → Option (Answer V) → List (Operation V)
+  abbrev entry : ℕ → ℕ → Option (Result (Answer V) Decline) → List (Operation V)
   entry x e None = []
-  entry x e (Some Done) = []
-  entry x e (Some (WriteEnded i y)) = []
-  entry x e (Some (ReadEnded i k y v)) = cond (eqb k j && (eqb y x && not (has faulty i))) (read i e y v ∷ []) []
-  entry x e (Some (Counted waiting takeable)) = []
-  entry x e (Some (Declined reason)) = []
+  entry x e (Some (Ok Done)) = []
+  entry x e (Some (Ok (WriteEnded i y))) = []
+  entry x e (Some (Ok (ReadEnded i k y v))) = cond (eqb k j && (eqb y x && not (has faulty i))) (read i e y v ∷ []) []
+  entry x e (Some (Ok (Counted waiting takeable))) = []
+  entry x e (Some (Err reason)) = []
 
   -- the reads of number x that one of the first calls ended
   abbrev reads : ℕ → ℕ → List (Operation V)
@@ -207,26 +208,26 @@ module _ {V : Type 0} (R : Run V) (L : Lawful R.setting) (ok : R.setting.system.
   -- what stands among the reads
   abbrev ReadOf : ℕ → ℕ → Operation V → Type 0
   ReadOf x n (write y v) = ⊥
-  ReadOf x n (read i e y v) = (y ≡ x) × (e < n) × In faulty i × (answer_at R e ≡ Some (ReadEnded i j y v))
+  ReadOf x n (read i e y v) = (y ≡ x) × (e < n) × In faulty i × (answer_at R e ≡ Some (Ok (ReadEnded i j y v)))
 
   read_longer : (x n : ℕ) (o : Operation V) → ReadOf x n o → ReadOf x (suc n) o
   read_longer x n (write y v) w = absurd w
   read_longer x n (read i e y v) w = (w.0, omega (arith, w.1), w.2, w.3)
 
   -- an entry is empty, or one read
-  entry_or_none : (P : List (Operation V) → Type 0) (x e : ℕ) (a : Option (Answer V)) → P []
-      → ((i y : ℕ) (v : V) → y ≡ x → In faulty i → a ≡ Some (ReadEnded i j y v) → P (read i e y v ∷ [])) → P (entry x e a)
+  entry_or_none : (P : List (Operation V) → Type 0) (x e : ℕ) (a : Option (Result (Answer V) Decline)) → P []
+      → ((i y : ℕ) (v : V) → y ≡ x → In faulty i → a ≡ Some (Ok (ReadEnded i j y v)) → P (read i e y v ∷ [])) → P (entry x e a)
   entry_or_none P x e None none one = none
-  entry_or_none P x e (Some Done) none one = none
-  entry_or_none P x e (Some (WriteEnded i y)) none one = none
-  entry_or_none P x e (Some (ReadEnded i k y v)) none one =
+  entry_or_none P x e (Some (Ok Done)) none one = none
+  entry_or_none P x e (Some (Ok (WriteEnded i y))) none one = none
+  entry_or_none P x e (Some (Ok (ReadEnded i k y v))) none one =
       cond_both (eqb k j && (eqb y x && not (has faulty i))) (read i e y v ∷ []) [] P
       (λ t. let w = and_parts _ _ t in let u = and_parts _ _ w.1 in
-      one i y v (eqb-true y x u.0) (not-true _ u.1) (ap (λ z. Some (ReadEnded i z y v)) (eqb-true k j w.0))) (λ _. none)
-  entry_or_none P x e (Some (Counted waiting takeable)) none one = none
-  entry_or_none P x e (Some (Declined reason)) none one = none
+      one i y v (eqb-true y x u.0) (not-true _ u.1) (ap (λ z. Some (Ok (ReadEnded i z y v))) (eqb-true k j w.0))) (λ _. none)
+  entry_or_none P x e (Some (Ok (Counted waiting takeable))) none one = none
+  entry_or_none P x e (Some (Err reason)) none one = none
 
-  entry_is : (x e : ℕ) (a : Option (Answer V)) → answer_at R e ≡ a → All (ReadOf x (suc e)) (entry x e a)
+  entry_is : (x e : ℕ) (a : Option (Result (Answer V) Decline)) → answer_at R e ≡ a → All (ReadOf x (suc e)) (entry x e a)
   entry_is x e a q =
       entry_or_none (All (ReadOf x (suc e))) x e a (All-nil (ReadOf x (suc e)))
       (λ i y v same in' r. all_one (ReadOf x (suc e)) (read i e y v) (same, omega arith, in', q ∙ r))
@@ -236,7 +237,7 @@ module _ {V : Type 0} (R : Run V) (L : Lawful R.setting) (ok : R.setting.system.
   reads_are x (suc n) =
       All-append (ReadOf x (suc n)) (reads x n) _ (All-weaker (ReadOf x n) (ReadOf x (suc n)) (read_longer x n) (reads x n) (reads_are x n)) (entry_is x n (answer_at R n) refl)
 
-  reads_hold : (x n i e : ℕ) (v : V) → e < n → In faulty i → answer_at R e ≡ Some (ReadEnded i j x v) → Mem (read i e x v) (reads x n)
+  reads_hold : (x n i e : ℕ) (v : V) → e < n → In faulty i → answer_at R e ≡ Some (Ok (ReadEnded i j x v)) → Mem (read i e x v) (reads x n)
   reads_hold x zero i e v l h q = absurd (omega arith)
   reads_hold x (suc n) i e v l h q =
       ⊎_elim
@@ -255,7 +256,7 @@ module _ {V : Type 0} (R : Run V) (L : Lawful R.setting) (ok : R.setting.system.
   first_read x n (read i e y v) w (write y' v') w' q = absurd w'
   first_read x n (read i e y v) w (read i' e' y' v') w' q = record { by = inr (w.0 ∙ sym w'.0, omega (arith, w.1)) }
 
-  entry_last : (x e : ℕ) (a : Option (Answer V)) → All (λ o. rank_of o ≡ suc e) (entry x e a) × Ascending (entry x e a)
+  entry_last : (x e : ℕ) (a : Option (Result (Answer V) Decline)) → All (λ o. rank_of o ≡ suc e) (entry x e a) × Ascending (entry x e a)
   entry_last x e a =
       entry_or_none (λ l. All (λ o. rank_of o ≡ suc e) l × Ascending l) x e a (All-nil (λ o. rank_of o ≡ suc e), tt)
       (λ i y v _ _ _. (all_one (λ o. rank_of o ≡ suc e) (read i e y v) refl, (All-nil (ComesFirst (read i e y v)), tt)))

@@ -1,5 +1,6 @@
 -- Every waiting message, and every operation, names stations and registers of the bench only.
-use Rattle.std.proofs.Common.{◌≡◌, ℕ, suc, ◌+◌, ◌<◌, ◌≤◌, true, ◌&&◌, eqb, List, [], ◌∷◌, map, Some, None, Option, refl, ap, ◌∙◌, subst, ⊎_elim, arith}
+use Rattle.std.proofs.Common.{◌≡◌, ℕ, suc, ◌+◌, ◌<◌, ◌≤◌, true, ◌&&◌, eqb, List, [], ◌∷◌, map, Some, None, Option, refl, ap, ◌∙◌, subst, ⊎_elim, arith, Result}
+use Rattle.decline.specs.declared.Decline.{Decline}
 use Rattle.std.specs.List.{range_with_len, All}
 use Rattle.std.proofs.lemmas.Bool.{both_ways, cond_both, and_parts, eqb-true, ltb-true, not-false, and_cases}
 use Rattle.std.proofs.lemmas.List.Elements.{All-nil, All-cons, All-append, All-weaker, All-map, All-filter}
@@ -137,7 +138,7 @@ module _ {V : Type 0} (c : Setting V) where
   by : (s : State V) → Named s → NamedBy (leaves s)
   by s h = record { state = h }
 
-  staged : (s : State V) (i : ℕ) (o : Stage V) (a : Answer V) → NamesStage s.figures.stations o → Named s → NamedBy (record { state = with_stage i o s; answer = a })
+  staged : (s : State V) (i : ℕ) (o : Stage V) (a : Result (Answer V) Decline) → NamesStage s.figures.stations o → Named s → NamedBy (record { state = with_stage i o s; answer = a })
   staged s i o a n h = record { state = stage_to s i o n h }
 
   write_done : (s : State V) (i k x : ℕ) (o : Stage V) → (s.station i).stage ≡ o → k < s.figures.stations → Named s → NamedBy (write_done_at c i k x s o)

@@ -1,5 +1,6 @@
 -- A station that acts changes its own tables only, and sends in its own name.
-use Rattle.std.proofs.Common.{◌≡◌, ℕ, suc, max, ◌&&◌, eqb, List, [], ◌∷◌, ◌++◌, sym, refl, ap, ◌∙◌, append_assoc, append-nil}
+use Rattle.std.proofs.Common.{◌≡◌, ℕ, suc, max, ◌&&◌, eqb, List, [], ◌∷◌, ◌++◌, sym, refl, ap, ◌∙◌, append_assoc, append-nil, Ok, Err, Result}
+use Rattle.decline.specs.declared.Decline.{Decline}
 use mathlib.Core.Path.{fun_ext}
 use Rattle.std.specs.List.{All}
 use Rattle.std.proofs.lemmas.Bool.{cond_both, eqb-true, and_parts}
@@ -10,7 +11,7 @@ use Rattle.machine.specs.declared.message.Message.TheVariants.{Init, Echo, Ready
 use Rattle.machine.specs.declared.station.Stage.{Stage}
 use Rattle.machine.specs.declared.station.Stage.TheVariants.{Idle, Writing, Querying, Catching}
 use Rattle.machine.specs.declared.call.Answer.{Answer}
-use Rattle.machine.specs.declared.call.Answer.TheVariants.{Done, WriteEnded, ReadEnded, Counted, Declined}
+use Rattle.machine.specs.declared.call.Answer.TheVariants.{Done, WriteEnded, ReadEnded, Counted}
 use Rattle.machine.specs.State.{Setting, Cell, State, number, with_cell, with_stage, with_written, with_reads, with_report, with_held, send}
 use Rattle.machine.specs.Operations.{Outcome, leaves, start_catching, freshness_at, test_freshness, write_done_at, keep_report, state_at, catch_up_done_at}
 use Rattle.machine.specs.Publishing.{vote_echo, vote_ready, send_echo, send_ready, release, take_value, count_echoes, on_echo, join_readies, count_readies, on_ready}
@@ -239,12 +240,12 @@ module _ {V : Type 0} where
       (only_send i _ _ (all_to_all (λ m. sender m ≡ i) s.figures.stations (λ k. Read i k j r) (λ k. refl))))
 
   -- an answer speaks of the station that acted
-  abbrev pub About : ℕ → Answer V → Type 0
-  About i Done = Unit {0}
-  About i (WriteEnded k x) = k ≡ i
-  About i (ReadEnded k j x v) = k ≡ i
-  About i (Counted waiting takeable) = Unit {0}
-  About i (Declined reason) = Unit {0}
+  abbrev pub About : ℕ → Result (Answer V) Decline → Type 0
+  About i (Ok Done) = Unit {0}
+  About i (Ok (WriteEnded k x)) = k ≡ i
+  About i (Ok (ReadEnded k j x v)) = k ≡ i
+  About i (Ok (Counted waiting takeable)) = Unit {0}
+  About i (Err reason) = Unit {0}
 
   -- what a station that acts leaves and answers is its own
   pub record Own (i : ℕ) (s : State V) (o : Outcome V) : Type 0 where
@@ -254,14 +255,14 @@ module _ {V : Type 0} where
   own_none : (i : ℕ) (s : State V) → Own i s (leaves s)
   own_none i s = record { only = only_none i s; about = tt }
 
-  own_stage : (i : ℕ) (s : State V) (o : Stage V) (a : Answer V) → About i a → Own i s (record { state = with_stage i o s; answer = a })
+  own_stage : (i : ℕ) (s : State V) (o : Stage V) (a : Result (Answer V) Decline) → About i a → Own i s (record { state = with_stage i o s; answer = a })
   own_stage i s o a w = record { only = only_stage i o s; about = w }
 
   own_write_done : (c : Setting V) (i k x : ℕ) (s : State V) (o : Stage V) → Own i s (write_done_at c i k x s o)
   own_write_done c i k x s Idle = own_none i s
   own_write_done c i k x s (Writing y done) =
       cond_both (eqb y x) _ _ (Own i s)
-      (λ _. cond_both (c.system.quorum (with_station done k)) _ _ (Own i s) (λ _. own_stage i s Idle (WriteEnded i x) refl) (λ _. own_stage i s (Writing x (with_station done k)) Done tt))
+      (λ _. cond_both (c.system.quorum (with_station done k)) _ _ (Own i s) (λ _. own_stage i s Idle (Ok (WriteEnded i x)) refl) (λ _. own_stage i s (Writing x (with_station done k)) (Ok Done) tt))
       (λ _. own_none i s)
   own_write_done c i k x s (Querying j r reported) = own_none i s
   own_write_done c i k x s (Catching j y v done) = own_none i s
@@ -272,7 +273,7 @@ module _ {V : Type 0} where
   own_caught c i k j x s (Querying asked r reported) = own_none i s
   own_caught c i k j x s (Catching caught y v done) =
       cond_both (eqb caught j && eqb y x) _ _ (Own i s)
-      (λ _. cond_both (c.system.quorum (with_station done k)) _ _ (Own i s) (λ _. own_stage i s Idle (ReadEnded i j x v) refl) (λ _. own_stage i s (Catching j x v (with_station done k)) Done tt))
+      (λ _. cond_both (c.system.quorum (with_station done k)) _ _ (Own i s) (λ _. own_stage i s Idle (Ok (ReadEnded i j x v)) refl) (λ _. own_stage i s (Catching j x v (with_station done k)) (Ok Done) tt))
       (λ _. own_none i s)
 
   quiet : (i : ℕ) (s t : State V) → Only i s t → Own i s (leaves t)

@@ -1,6 +1,6 @@
 -- Which of two operations on a register stands first: the four cases of precedence.
 -- Of the broadcast only its four properties are used.
-use Rattle.std.proofs.Common.{◌≡◌, ℕ, zero, suc, ◌<◌, ◌≤◌, true, false, ◌||◌, length, Some, sym, refl, ap, ◌∙◌, subst, inl, inr, ⊎_elim, arith}
+use Rattle.std.proofs.Common.{◌≡◌, ℕ, zero, suc, ◌<◌, ◌≤◌, true, false, ◌||◌, length, Some, sym, refl, ap, ◌∙◌, subst, inl, inr, ⊎_elim, arith, Ok}
 use Rattle.std.proofs.lemmas.Bool.{both_ways, cases_lt, and_from, eq-eqb}
 use Rattle.station_set.specs.Sets.{has}
 use Rattle.machine.specs.declared.station.Stage.{Stage}
@@ -134,8 +134,8 @@ module _ {V : Type 0} (R : Run V) (L : Lawful R.setting) (ok : R.setting.system.
           fresh = subst (ReadsFresh c L faulty ok opening i j r base) (sym t')
               (begins_fresh c L faulty ok opening (after R b) (history_at R L ok b) (holds_at R L ok b).sincere i j e);
         }
-    opens (ends_writing q k x done gd ea t) = absurd (let z : Some (WriteEnded i x) ≡ Some Done = sym ea ∙ begin.answer in grind arith)
-    opens (ends_reading q k k' x v done gd ea t) = absurd (let z : Some (ReadEnded i k' x v) ≡ Some Done = sym ea ∙ begin.answer in grind arith)
+    opens (ends_writing q k x done gd ea t) = absurd (let z : Some (Ok (WriteEnded i x)) ≡ Some (Ok Done) = sym ea ∙ begin.answer in grind arith)
+    opens (ends_reading q k k' x v done gd ea t) = absurd (let z : Some (Ok (ReadEnded i k' x v)) ≡ Some (Ok Done) = sym ea ∙ begin.answer in grind arith)
 
     stays : (p : ℕ) → ends_operation i (answer_at R p) ≡ false → OpenAt p → Along R L ok i p → OpenAt (suc p)
     stays p n w (goes s n' none) =

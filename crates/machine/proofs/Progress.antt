@@ -1,5 +1,5 @@
 -- What one call does to the operation of a station inside.
-use Rattle.std.proofs.Common.{◌≡◌, ℕ, ◌<◌, Bool, true, false, ◌&&◌, ◌||◌, Some, None, sym, refl, ap, ◌∙◌, subst, ⊎_elim}
+use Rattle.std.proofs.Common.{◌≡◌, ℕ, ◌<◌, Bool, true, false, ◌&&◌, ◌||◌, Some, None, sym, refl, ap, ◌∙◌, subst, ⊎_elim, Ok, Err, Result}
 use Rattle.std.proofs.lemmas.Bool.{and_right, both_ways, cases_eq, ne_eqb, ltb-true, not-false, and_parts}
 use Rattle.decline.specs.declared.Decline.{Decline}
 use Rattle.station_set.specs.Sets.{has}
@@ -8,7 +8,7 @@ use Rattle.machine.specs.declared.station.Stage.TheVariants.{Idle}
 use Rattle.machine.specs.declared.call.Call.{Call}
 use Rattle.machine.specs.declared.call.Call.TheVariants.{Open, BeginWrite, BeginRead, Take, Forge, Withdraw, Count}
 use Rattle.machine.specs.declared.call.Answer.{Answer}
-use Rattle.machine.specs.declared.call.Answer.TheVariants.{Done, WriteEnded, ReadEnded, Counted, Declined}
+use Rattle.machine.specs.declared.call.Answer.TheVariants.{Done, WriteEnded, ReadEnded, Counted}
 use Rattle.machine.specs.State.{Setting, State, with_stage, remove}
 use Rattle.machine.specs.Operations.{Outcome, leaves}
 use Rattle.machine.specs.Calls.{write_reasons, write_decline, read_reasons, read_decline, begin_write, begin_read, step}
@@ -20,27 +20,27 @@ use Rattle.machine.proofs.Moments.{Goes_on, goes_on_refl, Steady, chain_steady, 
 
 module _ {V : Type 0} (c : Setting V) (f : ℕ) where
   -- the call begins an operation of station i
-  abbrev pub begins : ℕ → Call V → Answer V → Bool
+  abbrev pub begins : ℕ → Call V → Result (Answer V) Decline → Bool
   begins i call answer = (is_write_of i (Some call) || is_read_of i (Some call)) && is_done (Some answer)
 
   pub data Progress (i : ℕ) (s : State V) (call : Call V) (o : Outcome V) : Type 0 where
     goes_on : Steady c f i s o.state → ends_operation i (Some o.answer) ≡ false → begins i call o.answer ≡ false → Progress i s call o
-    writes : (v : V) → call ≡ BeginWrite i v → o.answer ≡ Done → i < s.figures.stations → (s.station i).stage ≡ Idle
+    writes : (v : V) → call ≡ BeginWrite i v → o.answer ≡ Ok Done → i < s.figures.stations → (s.station i).stage ≡ Idle
         → o.state ≡ begin_write i v s → Progress i s call o
-    asks : (j : ℕ) → call ≡ BeginRead i j → o.answer ≡ Done → i < s.figures.stations → (s.station i).stage ≡ Idle
+    asks : (j : ℕ) → call ≡ BeginRead i j → o.answer ≡ Ok Done → i < s.figures.stations → (s.station i).stage ≡ Idle
         → o.state ≡ begin_read i j s → Progress i s call o
-    ends_write : (p k x done : ℕ) → Guard c f (EndWrite p i k x done) s → o.answer ≡ WriteEnded i x
+    ends_write : (p k x done : ℕ) → Guard c f (EndWrite p i k x done) s → o.answer ≡ Ok (WriteEnded i x)
         → o.state ≡ with_stage i Idle (remove p s) → Progress i s call o
-    ends_read : (p k j x : ℕ) (v : V) (done : ℕ) → Guard c f (EndRead p i k j x v done) s → o.answer ≡ ReadEnded i j x v
+    ends_read : (p k j x : ℕ) (v : V) (done : ℕ) → Guard c f (EndRead p i k j x v done) s → o.answer ≡ Ok (ReadEnded i j x v)
         → o.state ≡ with_stage i Idle (remove p s) → Progress i s call o
 
   module _ (i : ℕ) (inside : has f i ≡ false) (s : State V) (w : Fits c f s) where
-    silent_of : (a : Answer V) → Silent c f a → ends_operation i (Some a) ≡ false
-    silent_of Done h = refl
-    silent_of (WriteEnded k x) h = ne_eqb k i (λ e. both_ways _ inside (ap (has f) (sym e) ∙ h))
-    silent_of (ReadEnded k j x v) h = ne_eqb k i (λ e. both_ways _ inside (ap (has f) (sym e) ∙ h))
-    silent_of (Counted waiting takeable) h = refl
-    silent_of (Declined reason) h = refl
+    silent_of : (a : Result (Answer V) Decline) → Silent c f a → ends_operation i (Some a) ≡ false
+    silent_of (Ok Done) h = refl
+    silent_of (Ok (WriteEnded k x)) h = ne_eqb k i (λ e. both_ways _ inside (ap (has f) (sym e) ∙ h))
+    silent_of (Ok (ReadEnded k j x v)) h = ne_eqb k i (λ e. both_ways _ inside (ap (has f) (sym e) ∙ h))
+    silent_of (Ok (Counted waiting takeable)) h = refl
+    silent_of (Err reason) h = refl
 
     -- another station's operation ends
     other_ends : (a p : ℕ) → (a ≡ i → ⊥) → Steady c f i s (with_stage a Idle (remove p s))
@@ -56,13 +56,13 @@ module _ {V : Type 0} (c : Setting V) (f : ℕ) where
     by_went : (call : Call V) (o : Outcome V) → (begins i call o.answer ≡ false) → Went c f s o → Progress i s call o
     by_went call o b (quietly d h) = goes_on (chain_steady c f i inside d) (silent_of o.answer h) b
     by_went call o b (write_ends p a k x done gd) =
-        ⊎_elim (λ e. ends_write p k x done (subst (λ z. Guard c f (EndWrite p z k x done) s) e gd) (ap (λ z. WriteEnded z x) e) (ap (λ z. with_stage z Idle (remove p s)) e))
+        ⊎_elim (λ e. ends_write p k x done (subst (λ z. Guard c f (EndWrite p z k x done) s) e gd) (ap (λ z. Ok (WriteEnded z x)) e) (ap (λ z. with_stage z Idle (remove p s)) e))
         (λ ne. goes_on (other_ends a p ne) (ne_eqb a i ne) b) (cases_eq a i)
     by_went call o b (read_ends p a k j x v done gd) =
-        ⊎_elim (λ e. ends_read p k j x v done (subst (λ z. Guard c f (EndRead p z k j x v done) s) e gd) (ap (λ z. ReadEnded z j x v) e) (ap (λ z. with_stage z Idle (remove p s)) e))
+        ⊎_elim (λ e. ends_read p k j x v done (subst (λ z. Guard c f (EndRead p z k j x v done) s) e gd) (ap (λ z. Ok (ReadEnded z j x v)) e) (ap (λ z. with_stage z Idle (remove p s)) e))
         (λ ne. goes_on (other_ends a p ne) (ne_eqb a i ne) b) (cases_eq a i)
 
-    stays : (call : Call V) (d : Decline) → begins i call (Declined d) ≡ false → Progress i s call (record { state = s; answer = Declined d })
+    stays : (call : Call V) (d : Decline) → begins i call (Err d) ≡ false → Progress i s call (record { state = s; answer = Err d })
     stays call d b = goes_on (steady_same c f i s s refl (λ j. refl)) refl b
 
     wrote : (k : ℕ) (v : V) → write_decline s k ≡ None → Progress i s (BeginWrite k v) (leaves (begin_write k v s))

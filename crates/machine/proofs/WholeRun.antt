@@ -1,5 +1,6 @@
 -- Order and rest of a run, put together.
-use Rattle.std.proofs.Common.{◌≡◌, ℕ, zero, suc, ◌<◌, ◌≤◌, true, false, ◌&&◌, ◌||◌, ltb, length, Some, None, Option, sym, refl, ap, ◌∙◌, subst, inl, inr, ⊎_elim, arith}
+use Rattle.std.proofs.Common.{◌≡◌, ℕ, zero, suc, ◌<◌, ◌≤◌, true, false, ◌&&◌, ◌||◌, ltb, length, Some, None, Option, sym, refl, ap, ◌∙◌, subst, inl, inr, ⊎_elim, arith, Result}
+use Rattle.decline.specs.declared.Decline.{Decline}
 use Rattle.std.proofs.lemmas.Bool.{both_ways, and_parts, and_from, and_cases, and_right, not_from_false, not-false, ltb-true, lt-ltb, eq-eqb, cases_lt}
 use Rattle.station_set.specs.Sets.{has}
 use Rattle.station_set.proofs.Below.{search_below}
@@ -143,7 +144,7 @@ module _ {V : Type 0} (R : Run V) (L : Lawful R.setting) (ok : R.setting.system.
   stays_open i p n w (ends_writing q k x done gd ea e) = absurd (both_ways _ n (ap (ends_operation i) ea ∙ eq-eqb i i refl))
   stays_open i p n w (ends_reading q k j x v done gd ea e) = absurd (both_ways _ n (ap (ends_operation i) ea ∙ eq-eqb i i refl))
 
-  done_some : (a : Option (Answer V)) → is_done a ≡ true → (d : Answer V) × (a ≡ Some d)
+  done_some : (a : Option (Result (Answer V) Decline)) → is_done a ≡ true → (d : Result (Answer V) Decline) × (a ≡ Some d)
   done_some None e = absurd (both_ways true (sym e) refl)
   done_some (Some d) e = (d, refl)
 

@@ -1,5 +1,5 @@
 -- The calls on a bench: when each is declined, what it does otherwise, and a run of calls.
-use Rattle.std.specs.Prelude.{◌≡◌, ℕ, suc, ◌+◌, ◌*◌, Bool, true, false, cond, not, ◌&&◌, ◌||◌, List, [], ◌∷◌, length, Some, None, count_by, Option, ◌==◌, nat_le, nat_lt}
+use Rattle.std.specs.Prelude.{◌≡◌, ℕ, suc, ◌+◌, ◌*◌, Bool, true, false, cond, not, ◌&&◌, ◌||◌, List, [], ◌∷◌, length, Some, None, count_by, Option, ◌==◌, nat_le, nat_lt, Ok, Err, Result}
 use Rattle.std.specs.List.{slice_get}
 use Rattle.decline.specs.declared.Decline.{Decline}
 use Rattle.decline.specs.declared.Decline.TheVariants.{Closed, AlreadyOpen, OutsideLimits, NotAllowed, OtherSize, NoSuchStation, WrongSide, BadForgery, NotIdle, NumbersUsedUp, NoSuchMessage, Ahead, PoolFull}
@@ -12,7 +12,7 @@ use Rattle.machine.specs.declared.call.Forgery.{Forgery}
 use Rattle.machine.specs.declared.call.Call.{Call}
 use Rattle.machine.specs.declared.call.Call.TheVariants.{Open, BeginWrite, BeginRead, Take, Forge, Withdraw, Count}
 use Rattle.machine.specs.declared.call.Answer.{Answer}
-use Rattle.machine.specs.declared.call.Answer.TheVariants.{Done, Counted, Declined}
+use Rattle.machine.specs.declared.call.Answer.TheVariants.{Done, Counted}
 use Rattle.machine.specs.State.{Setting, State, number, is_faulty, fresh_cell, with_stage, with_written, with_reads, remove, send, to_all}
 use Rattle.machine.specs.Publishing.{on_init, on_echo, on_ready, is_none}
 use Rattle.machine.specs.Operations.{Outcome, leaves, on_write_done, on_read, on_state, on_catch_up, on_catch_up_done}
@@ -75,7 +75,7 @@ first_that_fits (reason ∷ reasons) = cond reason.0 (Some reason.1) (first_that
 -- a call that is declined changes nothing
 abbrev pub unless : {V : Type 0} → Option Decline → Outcome V → State V → Outcome V
 unless None outcome s = outcome
-unless (Some reason) outcome s = record { state = s; answer = Declined reason }
+unless (Some reason) outcome s = record { state = s; answer = Err reason }
 
 abbrev pub within : ℕ → ℕ → ℕ → Bool
 within low high x = nat_le low x && nat_le x high
@@ -244,13 +244,13 @@ between_correct s m = is_correct s (sender m) && is_correct s (receiver m)
 abbrev pub takeable : {V : Type 0} → State V → Message V → Bool
 takeable s m = between_correct s m && not (ahead s m)
 
-abbrev pub count : {V : Type 0} → State V → Answer V
-count s = Counted (length s.pool) (count_by (takeable s) s.pool)
+abbrev pub count : {V : Type 0} → State V → Result (Answer V) Decline
+count s = Ok (Counted (length s.pool) (count_by (takeable s) s.pool))
 
 -- One call on an open bench
 
 abbrev pub step : {V : Type 0} → Setting V → State V → Call V → Outcome V
-step c s (Open o) = record { state = s; answer = Declined AlreadyOpen }
+step c s (Open o) = record { state = s; answer = Err AlreadyOpen }
 step c s (BeginWrite i v) = unless (write_decline s i) (leaves (begin_write i v s)) s
 step c s (BeginRead i j) = unless (read_decline s i j) (leaves (begin_read i j s)) s
 step c s (Take place) = unless (take_decline c s place) (receive c place s (slice_get s.pool place)) s
@@ -264,7 +264,7 @@ abbrev pub run : {V : Type 0} → Setting V → State V → List (Call V) → St
 run c s [] = s
 run c s (call ∷ calls) = run c (step c s call).state calls
 
-abbrev pub answers : {V : Type 0} → Setting V → State V → List (Call V) → List (Answer V)
+abbrev pub answers : {V : Type 0} → Setting V → State V → List (Call V) → List (Result (Answer V) Decline)
 answers c s [] = []
 answers c s (call ∷ calls) = (step c s call).answer ∷ answers c (step c s call).state calls
 
@@ -318,20 +318,20 @@ Bench V = Option (State V)
 
 pub record Reply (V : Type 0) : Type 0 where
   pub bench : Bench V
-  pub answer : Answer V
+  pub answer : Result (Answer V) Decline
 
 abbrev pub open_reply : {V : Type 0} → Setting V → Opening V → Option Decline → Reply V
-open_reply c o None = record { bench = Some (opened c o); answer = Done }
-open_reply c o (Some reason) = record { bench = None; answer = Declined reason }
+open_reply c o None = record { bench = Some (opened c o); answer = Ok Done }
+open_reply c o (Some reason) = record { bench = None; answer = Err reason }
 
 abbrev pub closed_reply : {V : Type 0} → Setting V → Lent → Call V → Reply V
 closed_reply c t (Open o) = open_reply c o (open_decline c t o)
-closed_reply c t (BeginWrite i v) = record { bench = None; answer = Declined Closed }
-closed_reply c t (BeginRead i j) = record { bench = None; answer = Declined Closed }
-closed_reply c t (Take place) = record { bench = None; answer = Declined Closed }
-closed_reply c t (Forge f) = record { bench = None; answer = Declined Closed }
-closed_reply c t (Withdraw place) = record { bench = None; answer = Declined Closed }
-closed_reply c t Count = record { bench = None; answer = Declined Closed }
+closed_reply c t (BeginWrite i v) = record { bench = None; answer = Err Closed }
+closed_reply c t (BeginRead i j) = record { bench = None; answer = Err Closed }
+closed_reply c t (Take place) = record { bench = None; answer = Err Closed }
+closed_reply c t (Forge f) = record { bench = None; answer = Err Closed }
+closed_reply c t (Withdraw place) = record { bench = None; answer = Err Closed }
+closed_reply c t Count = record { bench = None; answer = Err Closed }
 
 -- a call on a bench, closed or open
 abbrev pub call_on : {V : Type 0} → Setting V → Lent → Bench V → Call V → Reply V

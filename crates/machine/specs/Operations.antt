@@ -1,5 +1,6 @@
 -- How a correct station acts on the other five kinds: the operations on the registers above the broadcast.
-use Rattle.std.specs.Prelude.{ℕ, max, cond, not, ◌&&◌, [], ◌∷◌, ◌==◌, nat_le}
+use Rattle.std.specs.Prelude.{ℕ, max, cond, not, ◌&&◌, [], ◌∷◌, ◌==◌, nat_le, Ok, Result}
+use Rattle.decline.specs.declared.Decline.{Decline}
 use Rattle.station_set.specs.Sets.{has, with_station, set_of}
 use Rattle.machine.specs.declared.message.Message.TheVariants.{State as StateOf, CatchUp, CatchUpDone}
 use Rattle.machine.specs.declared.station.Stage.{Stage}
@@ -11,10 +12,10 @@ use Rattle.machine.specs.State.{Setting, State, number, put_triple, with_stage, 
 -- what a call leaves, and what it answers
 pub record Outcome (V : Type 0) : Type 0 where
   pub state : State V
-  pub answer : Answer V
+  pub answer : Result (Answer V) Decline
 
 abbrev pub leaves : {V : Type 0} → State V → Outcome V
-leaves s = record { state = s; answer = Done }
+leaves s = record { state = s; answer = Ok Done }
 
 -- the stations of those that reported whose report is at most x
 abbrev pub fresh_reports : ℕ → ℕ → ℕ → (ℕ → ℕ) → ℕ
@@ -40,7 +41,7 @@ test_freshness c i j s = freshness_at c i j s (s.station i).stage
 -- WRITE_DONE from station k: while i is writing this number, k is done
 abbrev pub end_write : {V : Type 0} → Setting V → ℕ → ℕ → ℕ → State V → Outcome V
 end_write c i x done s =
-    cond (c.system.quorum done) (record { state = with_stage i Idle s; answer = WriteEnded i x }) (leaves (with_stage i (Writing x done) s))
+    cond (c.system.quorum done) (record { state = with_stage i Idle s; answer = Ok (WriteEnded i x) }) (leaves (with_stage i (Writing x done) s))
 
 abbrev pub write_done_at : {V : Type 0} → Setting V → ℕ → ℕ → ℕ → State V → Stage V → Outcome V
 write_done_at c i k x s Idle = leaves s
@@ -78,7 +79,7 @@ on_catch_up i k j x s =
 -- CATCH_UP_DONE from station k: while i is catching this number, k is done; the reading returns what was noted
 abbrev pub end_read : {V : Type 0} → Setting V → ℕ → ℕ → ℕ → V → ℕ → State V → Outcome V
 end_read c i j x v done s =
-    cond (c.system.quorum done) (record { state = with_stage i Idle s; answer = ReadEnded i j x v }) (leaves (with_stage i (Catching j x v done) s))
+    cond (c.system.quorum done) (record { state = with_stage i Idle s; answer = Ok (ReadEnded i j x v) }) (leaves (with_stage i (Catching j x v done) s))
 
 abbrev pub catch_up_done_at : {V : Type 0} → Setting V → ℕ → ℕ → ℕ → ℕ → State V → Stage V → Outcome V
 catch_up_done_at c i k j x s Idle = leaves s

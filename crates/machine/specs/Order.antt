@@ -1,5 +1,5 @@
 -- Order and rest: what a bench promises of every run.
-use Rattle.std.specs.Prelude.{◌≡◌, ℕ, ◌<◌, true, List, [], ◌∷◌, take, Some, None}
+use Rattle.std.specs.Prelude.{◌≡◌, ℕ, ◌<◌, true, List, [], ◌∷◌, take, Some, None, Ok}
 use Rattle.std.specs.List.{slice_get}
 use Rattle.machine.specs.declared.station.Stage.TheVariants.{Idle}
 use Rattle.machine.specs.declared.call.Opening.{Opening}
@@ -62,9 +62,9 @@ module _ {V : Type 0} (R : Run V) where
 
   pub record Order : Type 0 where
     -- Each answer that an operation ended is the end of one that was begun, of that register or with that number.
-    pub read_began : (i j e x : ℕ) (v : V) → Correct R i → answer_at R e ≡ Some (ReadEnded i j x v)
+    pub read_began : (i j e x : ℕ) (v : V) → Correct R i → answer_at R e ≡ Some (Ok (ReadEnded i j x v))
         → (b : ℕ) × CompletedRead R i j b e x v
-    pub write_began : (i e x : ℕ) → Correct R i → answer_at R e ≡ Some (WriteEnded i x)
+    pub write_began : (i e x : ℕ) → Correct R i → answer_at R e ≡ Some (Ok (WriteEnded i x))
         → (b : ℕ) × (v : V) × CompletedWrite R i b e x v
     -- The writes of a register have one value each, and a correct owner's are those that it began.
     pub agreement : Agreement R

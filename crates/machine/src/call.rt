@@ -1,5 +1,4 @@
 //! The calls on a bench, and their answers. A call's numbers are as wide as a caller may spell them.
-use decline::Decline;
 
 // What a bench is opened with: the faulty set, the highest number, the places of the pool, the opening value.
 #[derive(Clone, Copy, PartialEq, Eq, Debug)]
@@ -34,6 +33,7 @@ pub enum Call<V> {
     Count,
 }
 
+// What a call answers that is not declined; one that is answers its `Decline`, as an `Err`.
 #[derive(Clone, Copy, PartialEq, Eq, Debug)]
 pub enum Answer<V> {
     // Opened, begun, taken, forged or withdrawn, and no operation ended.
@@ -52,5 +52,4 @@ pub enum Answer<V> {
         waiting: usize,
         takeable: usize,
     },
-    Declined(Decline),
 }

@@ -21,7 +21,7 @@ const FEWEST_SITES: usize = 4;
 
 // Station s stands at the site `sites[s]`; the places from n up are not used. The table has a fixed size, and is no Vec,
 // since a system is copied, and making one never runs out of memory.
-#[derive(Clone, Copy, PartialEq, Eq, Debug)]
+#[derive(Clone, Copy, Debug)]
 pub struct BySite {
     n: usize,
     sites: [u8; MOST_STATIONS],

@@ -1,4 +1,5 @@
-//! Sets of stations as 16-bit masks: bit s stands for station s, so a set has stations 0 to 15.
+//! Sets of stations as 16-bit masks: bit s stands for station s, so a set has stations 0 to 15. A set is a bare `u16` by
+//! rule of the project, since that is how systems, stations' records and callers have it.
 #![tactic(auto)]
 
 ghost use Rattle.std.specs.Prelude.{◌≡◌, ◌^◌, ◌<◌};
