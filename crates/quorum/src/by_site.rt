@@ -25,7 +25,6 @@ const FEWEST_SITES: usize = 4;
 pub struct BySite {
     n: usize,
     sites: [u8; MOST_STATIONS],
-    ghost whole: { length sites ≡ 10 },
     ghost some: { 1 ≤ n },
     ghost most: { n ≤ 10 },
     ghost four: { 4 ≤ sites_occurring sites n },
@@ -103,7 +102,6 @@ fn check_limits(sites: &[u64]) -> Result<(), Unfit>
 // The table of the sites.
 fn table_of(sites: &[u64]) -> [u8; MOST_STATIONS]
     requires { (length sites.now ≤ 10) × ((s : ℕ) → s < length sites.now → site_of sites.now s < 10) }
-    ensures whole { length result ≡ 10 }
     ensures front { take (length sites.now) result ≡ sites.now }
     ensures occurring { sites_occurring result (length sites.now) ≡ sites_occurring sites.now (length sites.now) }
 {

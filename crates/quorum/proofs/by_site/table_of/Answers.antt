@@ -25,7 +25,6 @@ returns c =
     let same : (k : ℕ) → k < length xs → get_or c.from_fn.result k 0 ≡ get_or xs k 0 = λ k l.
     subst (λ m. m < length xs → get_or c.from_fn.result m 0 ≡ get_or xs m 0) (zero-add k) (made k (omega (arith, c.requires.0))) l in
     record {
-      whole = c.from_fn.ensures.items.long;
       front = table_front xs c.from_fn.result (omega (arith, c.from_fn.ensures.items.long, c.requires.0)) same;
       occurring = same_sites c.from_fn.result xs (length xs) same;
     }
