@@ -1,4 +1,6 @@
 //! Surveys of a quorum system: its largest allowed sets, its smallest quorums, and how many of each kind there are.
+//! A system and a family go together through this file. In a struct of the two each clause would read
+//! `self.now.system.now`, so they stay two parameters.
 #![tactic(auto)]
 
 ghost use Rattle.std.specs.Prelude.{◌≡◌, ◌^◌, ◌≤◌, [], IfOk, vec_capacity, Decides};
@@ -26,8 +28,6 @@ pub struct Survey {
     pub quorums: u32,
 }
 
-// A system and a family go together through this file. In a struct of the two each clause would read
-// `self.now.system.now`, so they stay two parameters.
 fn is_in<S: QuorumSystem>(system: &S, family: Family, set: u16) -> bool
     ensures { result ≡ family_of family (S.families system.now) set }
 {

@@ -33,7 +33,7 @@ pub enum Call<V> {
     Count,
 }
 
-// What a call answers that is not declined; one that is answers its `Decline`, as an `Err`.
+// What a call answers that is not declined. A call that is declined answers `Err` of its `Decline`.
 #[derive(Clone, Copy, PartialEq, Eq, Debug)]
 pub enum Answer<V> {
     // Opened, begun, taken, forged or withdrawn, and no operation ended.

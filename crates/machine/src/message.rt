@@ -2,7 +2,8 @@
 
 // Every message names its sender and its receiver. They stand in each variant, and not in a struct around the enum, since
 // what they are to a message differs by its kind: INIT is about its sender's register and WRITE_DONE about its
-// receiver's; the others name theirs. So do a register and a number, which are another thing in each. A write is known by its number, a reading by its read number.
+// receiver's; the others name theirs. A register and a number stand in several variants, and mean another thing in each.
+// A write is known by its number, a reading by its read number.
 #[derive(Clone, Copy, PartialEq, Eq, Debug)]
 pub enum Message<V> {
     Init {

@@ -20,7 +20,7 @@ const SITES: u64 = 10;
 const FEWEST_SITES: usize = 4;
 
 // Station s stands at the site `sites[s]`; the places from n up are not used. The table has a fixed size, and is no Vec,
-// since a system is copied, and making one never runs out of memory.
+// since a system is copied, and making one never runs out of memory. There is no `==`: it would compare the unused places.
 #[derive(Clone, Copy, Debug)]
 pub struct BySite {
     n: usize,

@@ -1,5 +1,5 @@
-//! Sets of stations as 16-bit masks: bit s stands for station s, so a set has stations 0 to 15. A set is a bare `u16` by
-//! rule of the project, since that is how systems, stations' records and callers have it.
+//! Sets of stations as 16-bit masks: bit s stands for station s, so a set has stations 0 to 15. A set is a bare `u16`
+//! everywhere, by a rule of the project (docs/DECISIONS.md).
 #![tactic(auto)]
 
 ghost use Rattle.std.specs.Prelude.{◌≡◌, ◌^◌, ◌<◌};
