@@ -71,7 +71,7 @@ fn count_sites(sites: &[u64]) -> usize
     (0..SITES).filter(|site| site_occurs(sites, *site)).count()
 }
 
-// The first site number that is no site's.
+// The first number in the list that no site has. `known` says what that means for each number in it.
 fn first_unknown(sites: &[u64]) -> Option<u64>
     ensures first { result ≡ find (nat_le 10) sites.now }
     ensures known { MatchOption result ((s : ℕ) → s < length sites.now → site_of sites.now s < 10) (λ site. (s : ℕ) × (s < length sites.now) × (10 ≤ site_of sites.now s)) }
