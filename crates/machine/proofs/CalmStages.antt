@@ -12,7 +12,8 @@ use Rattle.machine.specs.declared.station.Stage.TheVariants.{Idle, Writing, Quer
 use Rattle.machine.specs.declared.station.Station.{Station}
 use Rattle.machine.specs.declared.call.Opening.{Opening}
 use Rattle.machine.specs.declared.call.Call.{Call}
-use Rattle.machine.specs.State.{Setting, Lawful, Cell, Figures, State, number, put, put_pair, with_cell, with_stage, fresh_cell, remove, send}
+use Rattle.machine.specs.declared.figures.Figures.{Figures}
+use Rattle.machine.specs.State.{Setting, Lawful, Cell, State, number, put, put_pair, with_cell, with_stage, fresh_cell, remove, send}
 use Rattle.machine.specs.Operations.{Outcome, leaves, fresh_reports, start_catching, freshness_at, test_freshness, write_done_at, keep_report, state_at, catch_up_done_at}
 use Rattle.machine.specs.Publishing.{mark_echoed, mark_readied, vote_echo, vote_ready, send_echo, send_ready, take_value, on_init, count_echoes, on_echo, join_readies, count_readies, on_ready}
 use Rattle.machine.specs.Calls.{act, unless_old, step, opened}
@@ -70,7 +71,7 @@ module _ {V : Type 0} (c : Setting V) (L : Lawful c) where
   stages_aside s t w h =
       record {
         each = λ a. subst (λ (g : ℕ → Station V). CalmStation t a (g a).stage) (sym w.station_same)
-            (calm_like _ _ _ _ _ _ (s.station a).stage (ap (λ (y : Figures). y.stations) w.figures_same) (w.number_same a) (ap (λ (g : ℕ → ℕ → ℕ). g a) w.reports_same) (h.each a));
+            (calm_like _ _ _ _ _ _ (s.station a).stage (ap (λ (y : Figures V). y.stations) w.figures_same) (w.number_same a) (ap (λ (g : ℕ → ℕ → ℕ). g a) w.reports_same) (h.each a));
       }
 
   -- one stage changes, to one that is calm

@@ -7,7 +7,8 @@ use Rattle.machine.specs.declared.station.Stage.{Stage}
 use Rattle.machine.specs.declared.station.Stage.TheVariants.{Idle, Writing, Querying, Catching}
 use Rattle.machine.specs.declared.station.Station.{Station}
 use Rattle.machine.specs.declared.call.Opening.{Opening}
-use Rattle.machine.specs.State.{Setting, Lawful, Figures, State, number, put}
+use Rattle.machine.specs.declared.figures.Figures.{Figures}
+use Rattle.machine.specs.State.{Setting, Lawful, State, number, put}
 use Rattle.machine.specs.Calls.{opened}
 use Rattle.machine.proofs.Tables.{put_all}
 use Rattle.machine.proofs.Acts.{Act, Elsewhere, Drop, StartWrite, StartRead, SendEcho, GotEcho, GotReady, SendReady, TakeValue, GotReport, Freshen, GotDone, EndWrite, GotCaught, EndRead, Report, AnswerNow, Hold}
@@ -153,7 +154,7 @@ module _ {V : Type 0} (c : Setting V) (L : Lawful c) (f : ℕ) (ok : c.system.al
       let r = act_recorded c f v₀ s h H.recorded a gd in (
         r.0,
         record {
-          fits = subst (λ (z : Figures). (z.stations ≡ c.system.stations) × Inside z.faulty f) (sym (act_figures a s gd)) H.fits;
+          fits = subst (λ (z : Figures V). (z.stations ≡ c.system.stations) × Inside z.faulty f) (sym (act_figures a s gd)) H.fits;
           recorded = r.1;
           truthful = (act_truthful c L f ok v₀ s h H.recorded H.truthful H.fits.0 a gd).1;
           arrivals = act_arrivals c L f ok v₀ s h H.truthful H.arrivals H.fits.0 a gd;

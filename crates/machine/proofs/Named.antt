@@ -15,10 +15,11 @@ use Rattle.machine.specs.declared.call.Forgery.{Forgery}
 use Rattle.machine.specs.declared.call.Opening.{Opening}
 use Rattle.machine.specs.declared.call.Call.{Call}
 use Rattle.machine.specs.declared.call.Answer.{Answer}
-use Rattle.machine.specs.State.{Setting, Cell, Figures, State, number, with_cell, with_stage, remove, send, to_all}
+use Rattle.machine.specs.declared.figures.Figures.{Figures}
+use Rattle.machine.specs.State.{Setting, Cell, State, number, with_cell, with_stage, remove, send, to_all}
 use Rattle.machine.specs.Operations.{Outcome, leaves, start_catching, freshness_at, test_freshness, write_done_at, keep_report, state_at, catch_up_done_at}
 use Rattle.machine.specs.Publishing.{vote_echo, vote_ready, send_echo, send_ready, take_value, count_echoes, on_echo, join_readies, count_readies, on_ready}
-use Rattle.machine.specs.Calls.{act, unless_old, begin_write, begin_read, write_reasons, read_reasons, forge_reasons, forge_decline, uses_register, forged, opened, step}
+use Rattle.machine.specs.Calls.{Names, act, unless_old, begin_write, begin_read, write_reasons, read_reasons, forge_reasons, forge_decline, uses_register, forged, opened, step}
 use Rattle.machine.proofs.Cases.{after_call}
 use Rattle.machine.proofs.Tables.{put_all, all_nth, all_removed, all_one}
 use Rattle.machine.proofs.Quorums.{joins}
@@ -35,16 +36,6 @@ all_below : {A : Type 0} (P : A → Type 0) (m : ℕ → A) (a n top : ℕ) → 
 all_below P m a n top l h = all_of_below P m top h (range_with_len a n) (counting_below a n top l)
 
 module _ {V : Type 0} (c : Setting V) where
-  abbrev pub Names : ℕ → Message V → Type 0
-  Names n (Init k i x v) = (k < n) × (i < n)
-  Names n (Echo k i j x v) = (k < n) × (i < n) × (j < n)
-  Names n (Ready k i j x v) = (k < n) × (i < n) × (j < n)
-  Names n (WriteDone k i x) = (k < n) × (i < n)
-  Names n (Read k i j r) = (k < n) × (i < n) × (j < n)
-  Names n (StateOf k i j r x) = (k < n) × (i < n) × (j < n)
-  Names n (CatchUp k i j x) = (k < n) × (i < n) × (j < n)
-  Names n (CatchUpDone k i j x) = (k < n) × (i < n) × (j < n)
-
   abbrev pub NamesStage : ℕ → Stage V → Type 0
   NamesStage n Idle = Unit {0}
   NamesStage n (Writing x done) = Among n done
@@ -122,7 +113,7 @@ module _ {V : Type 0} (c : Setting V) where
       let t : State V = with_cell i j (vote_ready k v (s.cell i j)) s in
       let u : State V = join_readies c i j v t in
       let w = join t i j v li lj (cell_to s i j _ h) in
-      let e = ap (λ (z : Figures). z.stations) w.1 in
+      let e = ap (λ (z : Figures V). z.stations) w.1 in
       cond_both _ (count_readies c i j v u) s Named
       (λ _. cond_both _ (test_freshness c i j (take_value i j v u)) u Named
       (λ _. freshness (take_value i j v u) i j ((take_value i j v u).station i).stage (omega (arith, e, li)) (omega (arith, e, lj)) (taking u i j v (omega (arith, e, li)) (omega (arith, e, lj)) w.0))

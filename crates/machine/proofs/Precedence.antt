@@ -8,7 +8,8 @@ use Rattle.machine.specs.declared.station.Stage.TheVariants.{Idle, Writing, Quer
 use Rattle.machine.specs.declared.call.Call.{Call}
 use Rattle.machine.specs.declared.call.Call.TheVariants.{BeginWrite, BeginRead}
 use Rattle.machine.specs.declared.call.Answer.TheVariants.{Done, WriteEnded, ReadEnded}
-use Rattle.machine.specs.State.{Setting, Lawful, Figures, State, number}
+use Rattle.machine.specs.declared.figures.Figures.{Figures}
+use Rattle.machine.specs.State.{Setting, Lawful, State, number}
 use Rattle.machine.specs.Operations.{Outcome}
 use Rattle.machine.specs.Calls.{step, opened, begin_read}
 use Rattle.machine.specs.Runs.{Run, after, at_end, answer_at, is_done, is_write_of, is_read_of, Correct, WriteBegins, ReadBegins, ends_operation, NoneEnds, CompletedWrite, CompletedRead}
@@ -59,16 +60,16 @@ module _ {V : Type 0} (R : Run V) (L : Lawful R.setting) (ok : R.setting.system.
   figures_end = ap (λ (s : State V). s.figures) end_is ∙ figures_at (length R.calls)
 
   pub inside : (i : ℕ) → Correct R i → In faulty i
-  inside i w = ap (λ (z : Figures). has z.faulty i) (sym figures_end) ∙ w.sound
+  inside i w = ap (λ (z : Figures V). has z.faulty i) (sym figures_end) ∙ w.sound
 
   pub below : (i : ℕ) → Correct R i → i < c.system.stations
-  below i w = omega (arith, w.station, ap (λ (z : Figures). z.stations) figures_end)
+  below i w = omega (arith, w.station, ap (λ (z : Figures V). z.stations) figures_end)
 
   pub correct : (i : ℕ) → In faulty i → i < c.system.stations → Correct R i
   correct i e l =
       record {
-        station = omega (arith, l, ap (λ (z : Figures). z.stations) figures_end);
-        sound = ap (λ (z : Figures). has z.faulty i) figures_end ∙ e;
+        station = omega (arith, l, ap (λ (z : Figures V). z.stations) figures_end);
+        sound = ap (λ (z : Figures V). has z.faulty i) figures_end ∙ e;
       }
 
   -- A reading from its beginning to its end

@@ -8,7 +8,8 @@ use Rattle.machine.specs.declared.message.Message.{Message}
 use Rattle.machine.specs.declared.station.Stage.{Stage}
 use Rattle.machine.specs.declared.station.Stage.TheVariants.{Idle, Writing, Querying, Catching}
 use Rattle.machine.specs.declared.call.Answer.{Answer}
-use Rattle.machine.specs.State.{Setting, Lawful, Figures, State, number}
+use Rattle.machine.specs.declared.figures.Figures.{Figures}
+use Rattle.machine.specs.State.{Setting, Lawful, State, number}
 use Rattle.machine.specs.declared.call.Opening.{Opening}
 use Rattle.machine.specs.Calls.{sender, receiver, ahead, is_idle, Lent, open_reasons, open_decline, opened}
 use Rattle.machine.specs.Runs.{Run, after, at_end, call_at, answer_at, is_done, is_write_of, is_read_of, begins_operation, ends_operation, WriteBegins, AtRest}
@@ -90,7 +91,7 @@ module _ {V : Type 0} (R : Run V) (L : Lawful R.setting) (ok : R.setting.system.
       rest' p.0 m p.1 (and_from _ _ (not_from_false _ (sound (sender m) e)) (not_from_false _ (sound (receiver m) q)))
     where
       sound : (k : ℕ) → In faulty k → has (after R calls).figures.faulty k ≡ false
-      sound k e = ap (λ (s : State V). has s.figures.faulty k) (sym (end_is R L ok)) ∙ ap (λ (z : Figures). has z.faulty k) (figures_end R L ok) ∙ e
+      sound k e = ap (λ (s : State V). has s.figures.faulty k) (sym (end_is R L ok)) ∙ ap (λ (z : Figures V). has z.faulty k) (figures_end R L ok) ∙ e
 
   totality : Totality R
   totality rest i k j hi hk =

@@ -1,5 +1,5 @@
 -- The calls on a bench: when each is declined, what it does otherwise, and a run of calls.
-use Rattle.std.specs.Prelude.{◌≡◌, ℕ, suc, ◌+◌, ◌*◌, Bool, true, false, cond, not, ◌&&◌, ◌||◌, List, [], ◌∷◌, length, Some, None, count_by, Option, ◌==◌, nat_le, nat_lt, Ok, Err, Result}
+use Rattle.std.specs.Prelude.{◌≡◌, ℕ, suc, ◌+◌, ◌*◌, ◌<◌, Bool, true, false, cond, not, ◌&&◌, ◌||◌, List, [], ◌∷◌, length, Some, None, count_by, Option, ◌==◌, nat_le, nat_lt, Ok, Err, Result}
 use Rattle.std.specs.List.{slice_get}
 use Rattle.decline.specs.declared.Decline.{Decline}
 use Rattle.decline.specs.declared.Decline.TheVariants.{Closed, AlreadyOpen, OutsideLimits, NotAllowed, OtherSize, NoSuchStation, WrongSide, BadForgery, NotIdle, NumbersUsedUp, NoSuchMessage, Ahead, PoolFull}
@@ -38,6 +38,17 @@ receiver (Read k i j r) = i
 receiver (StateOf k i j r x) = i
 receiver (CatchUp k i j x) = i
 receiver (CatchUpDone k i j x) = i
+
+-- all its stations, and its register if it names one, are below n
+abbrev pub Names : {V : Type 0} → ℕ → Message V → Type 0
+Names n (Init k i x v) = (k < n) × (i < n)
+Names n (Echo k i j x v) = (k < n) × (i < n) × (j < n)
+Names n (Ready k i j x v) = (k < n) × (i < n) × (j < n)
+Names n (WriteDone k i x) = (k < n) × (i < n)
+Names n (Read k i j r) = (k < n) × (i < n) × (j < n)
+Names n (StateOf k i j r x) = (k < n) × (i < n) × (j < n)
+Names n (CatchUp k i j x) = (k < n) × (i < n) × (j < n)
+Names n (CatchUpDone k i j x) = (k < n) × (i < n) × (j < n)
 
 -- an INIT, ECHO or READY past the publication that its receiver works on: it has to wait
 abbrev pub ahead : {V : Type 0} → State V → Message V → Bool
@@ -303,7 +314,7 @@ open_decline c t o = first_that_fits (open_reasons c t o)
 abbrev pub opened : {V : Type 0} → Setting V → Opening V → State V
 opened c o =
     record {
-      figures = record { stations = c.system.stations; faulty = o.faulty; highest = o.highest; places = o.places };
+      figures = record { stations = c.system.stations; faulty = o.faulty; highest = o.highest; places = o.places; opening = o.value };
       cell = λ _ _. fresh_cell o.value 0;
       station = λ _. record { opening = o.value; written = 0; stage = Idle };
       reads = λ _ _. 0;

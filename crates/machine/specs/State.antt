@@ -3,6 +3,7 @@ use Rattle.std.specs.Prelude.{◌≡◌, ℕ, Bool, false, cond, ◌&&◌, List,
 use Rattle.std.specs.List.{range_with_len, remove as removed}
 use Rattle.station_set.specs.Sets.{has}
 use Rattle.quorum.specs.Laws.{Families, Laws}
+use Rattle.machine.specs.declared.figures.Figures.{Figures}
 use Rattle.machine.specs.declared.message.Message.{Message}
 use Rattle.machine.specs.declared.station.Stage.{Stage}
 use Rattle.machine.specs.declared.station.Station.{Station}
@@ -28,15 +29,8 @@ pub record Cell (V : Type 0) : Type 0 where
   pub echoes : ℕ → Option V
   pub readies : ℕ → Option V
 
--- What opening fixed: how many stations, which are faulty, the highest number, and the places of the pool.
-pub record Figures : Type 0 where
-  pub stations : ℕ
-  pub faulty : ℕ
-  pub highest : ℕ
-  pub places : ℕ
-
 pub record State (V : Type 0) : Type 0 where
-  pub figures : Figures
+  pub figures : Figures V
   -- cell i j: what station i has of register j
   pub cell : ℕ → ℕ → Cell V
   pub station : ℕ → Station V

@@ -2,6 +2,7 @@
 #![tactic(auto)]
 
 pub mod call;
+pub mod figures;
 pub mod message;
 pub mod promise;
 pub mod station;
