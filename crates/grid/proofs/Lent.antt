@@ -1,0 +1,23 @@
+-- Changes of a lent slice, one after the other.
+use Rattle.std.proofs.Common.{◌≡◌, ℕ, ◌+◌, ◌-◌, ◌≤◌, List, length, drop, refl, sym, ap, ◌∙◌, arith}
+use Rattle.std.specs.Borrow.{MutBor}
+use Rattle.std.proofs.lemmas.List.{drop-drop}
+use Rattle.grid.specs.Lent.{SamePast}
+
+pub past_none : {X : Type 0} (n : ℕ) (a : MutBor (List X)) → SamePast n a a
+past_none n a = record { slice = refl; length = refl; rest = refl }
+
+pub past_more : {X : Type 0} (n m : ℕ) (a b : MutBor (List X)) → n ≤ m → SamePast n a b → SamePast m a b
+past_more n m a b l p =
+    let e : m ≡ n + (m - n) = omega (arith, l) in
+    record {
+      slice = p.slice;
+      length = p.length;
+      rest =
+        ap (λ k. drop k b.now) e ∙ sym (drop-drop (m - n) n b.now) ∙ ap (drop (m - n)) p.rest ∙ drop-drop (m - n) n a.now ∙ ap (λ k. drop k a.now) (sym e);
+    }
+
+pub past_then : {X : Type 0} (n m : ℕ) (a b c : MutBor (List X)) → n ≤ m → SamePast n a b → SamePast m b c → SamePast m a c
+past_then n m a b c l p q =
+    let w = past_more n m a b l p in
+    record { slice = q.slice ∙ w.slice; length = q.length ∙ w.length; rest = q.rest ∙ w.rest }
