@@ -1,7 +1,7 @@
 -- Changes of a lent slice, one after the other.
-use Rattle.std.proofs.Common.{◌≡◌, ℕ, ◌+◌, ◌-◌, ◌≤◌, List, length, drop, refl, sym, ap, ◌∙◌, arith}
+use Rattle.std.proofs.Common.{◌≡◌, ℕ, ◌+◌, ◌-◌, ◌<◌, ◌≤◌, List, length, drop, set, refl, sym, ap, ◌∙◌, arith}
 use Rattle.std.specs.Borrow.{MutBor}
-use Rattle.std.proofs.lemmas.List.{drop-drop}
+use Rattle.std.proofs.lemmas.List.{drop-drop, drop-set-lt, length-set}
 use Rattle.grid.specs.Lent.{SamePast}
 
 pub past_none : {X : Type 0} (n : ℕ) (a : MutBor (List X)) → SamePast n a a
@@ -21,3 +21,8 @@ pub past_then : {X : Type 0} (n m : ℕ) (a b c : MutBor (List X)) → n ≤ m �
 past_then n m a b c l p q =
     let w = past_more n m a b l p in
     record { slice = q.slice ∙ w.slice; length = q.length ∙ w.length; rest = q.rest ∙ w.rest }
+
+-- one element among the first m is written
+pub past_set : {X : Type 0} (m : ℕ) (a b : MutBor (List X)) (i : ℕ) (x : X) → b.ghost_name ≡ a.ghost_name → b.now ≡ set a.now i x → i < m → SamePast m a b
+past_set m a b i x slice now l =
+    record { slice = slice; length = ap length now ∙ length-set a.now i x; rest = ap (drop m) now ∙ drop-set-lt m a.now i x l }

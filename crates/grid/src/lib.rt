@@ -1,8 +1,9 @@
 //! Tables of stations in flat slices: where an entry stands, row after row. A lab has at most ten stations.
 #![tactic(auto)]
 
-ghost use Rattle.std.specs.Prelude.{◌≡◌, ◌+◌, ◌*◌, ◌<◌, ◌≤◌};
+ghost use Rattle.std.specs.Prelude.{◌≡◌, ◌+◌, ◌*◌, ◌<◌, ◌≤◌, length, slice_set};
 ghost use Rattle.grid.specs.Grid.{row_index};
+ghost use Rattle.grid.specs.Lent.{Filled};
 
 // The entry of column j in row i, where a row has n columns.
 fn row_index(n: usize, i: usize, j: usize) -> usize
@@ -47,4 +48,35 @@ pub fn votes_index(n: usize, half: usize, i: usize, j: usize) -> usize
     ensures within { result + n ≤ 2 * n * n * n }
 {
     row_index(n, row_index(n, half, i), j) * n
+}
+
+// The entry of a voter among them.
+pub fn vote_index(n: usize, half: usize, i: usize, j: usize, k: usize) -> usize
+    requires few { n ≤ 10 }
+    requires half { half < 2 }
+    requires first { i < n }
+    requires second { j < n }
+    requires third { k < n }
+    ensures value { result ≡ row_index n (row_index n (row_index n half i) j) k }
+    ensures within { result < 2 * n * n * n }
+{
+    votes_index(n, half, i, j) + k
+}
+
+// Writes one entry.
+pub fn put<T: Copy>(xs: &mut [T], at: usize, x: T)
+    requires { at < length xs.old }
+    ensures { xs.new ≡ slice_set xs.old at x }
+{
+    xs[at] = x;
+}
+
+// Writes the same into `count` entries, from one on.
+pub fn fill<T: Copy>(xs: &mut [T], from: usize, count: usize, x: T)
+    requires { from + count ≤ length xs.old }
+    ensures { Filled from count x xs.old xs.new }
+{
+    for k in 0..count {
+        xs[from + k] = x;
+    }
 }

@@ -177,6 +177,14 @@ pub set_of_more : (n : ℕ) (p : ℕ → Bool) → cond (p n) (with_station (set
 unfolding set_of
 set_of_more n p = rw add-one
 
+-- a set is known by the test of the stations below n
+pub set_of_same : (n : ℕ) (p q : ℕ → Bool) → ((s : ℕ) → s < n → p s ≡ q s) → set_of n p ≡ set_of n q
+unfolding set_of
+set_of_same zero p q same = refl
+set_of_same (suc n) p q same =
+    ap (λ b. cond b (with_station (set_of n p) n) (set_of n p)) (same n (omega arith))
+    ∙ ap (λ m. cond (q n) (with_station m n) m) (set_of_same n p q (λ s l. same s (omega (arith, l))))
+
 pub has-set_of : (n : ℕ) (p : ℕ → Bool) (s : ℕ) → n ≤ 16 → has (set_of n p) s ≡ (ltb s n && p s)
 unfolding set_of
 has-set_of zero p s room = has_none s ∙ sym (and_left (ltb s 0) (p s) (le-ltb s 0 (omega arith)))

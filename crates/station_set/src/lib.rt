@@ -2,8 +2,8 @@
 //! everywhere, by a rule of the project (docs/DECISIONS.md).
 #![tactic(auto)]
 
-ghost use Rattle.std.specs.Prelude.{◌≡◌, ◌^◌, ◌<◌};
-ghost use Rattle.station_set.specs.Sets.{has, among, members, union, common, single, first, missing, with_station, without_station};
+ghost use Rattle.std.specs.Prelude.{◌≡◌, ℕ, ◌^◌, ◌<◌, ◌≤◌, Bool};
+ghost use Rattle.station_set.specs.Sets.{has, among, members, union, common, single, first, missing, with_station, without_station, set_of};
 ghost use Rattle.station_set.specs.ByMember.{ByMember};
 
 // How many stations a mask has room for.
@@ -91,6 +91,21 @@ pub fn size(set: u16) -> u32
     ensures { result ≡ members set }
 {
     set.count_ones()
+}
+
+// The stations below n that pass a test.
+pub fn those<F: Fn(usize) -> bool>(n: usize, passes: F) -> u16
+    requires room { n ≤ 16 }
+    requires callable { (s : ℕ) → s < n → F.pre passes s }
+    ensures { (test : ℕ → Bool) → ((s : ℕ) (b : Bool) → s < n → F.post passes s b → b ≡ test s) → result ≡ set_of n test }
+{
+    let mut set = 0;
+    for s in 0..n {
+        if passes(s) {
+            set = insert(set, s);
+        }
+    }
+    set
 }
 
 // Does nothing: its contract says what each operation means, member by member.

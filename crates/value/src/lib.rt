@@ -1,11 +1,11 @@
 //! Kinds of value that a register can hold.
 #![tactic(auto)]
 
-ghost use Rattle.std.specs.Prelude.{◌≡◌, ℕ, ◌<◌, ◌≤◌, if◌then◌else◌, Decides, slice_index_or};
+ghost use Rattle.std.specs.Prelude.{◌≡◌, ℕ, ◌<◌, ◌≤◌, if◌then◌else◌, Decides, length, slice_index_or};
 ghost use Rattle.station_set.specs.Sets.{has, with_station};
 ghost use Rattle.value.specs.Holders.{keeps, holders_of};
 
-use station_set::{ROOM, insert};
+use station_set::{ROOM, those};
 
 pub mod number;
 pub mod tally;
@@ -28,11 +28,11 @@ pub trait Printable: Value {
     ghost some: { 1 ≤ columns };
 }
 
-// The set, with station s where what it keeps is v.
-fn with_holder<V: Value>(set: u16, s: usize, kept: Option<V>, v: V) -> u16
-    ensures { result ≡ (if keeps V.eq v kept then with_station set s else set) }
+// Whether what is kept is v.
+fn keeps<V: Value>(kept: Option<V>, v: V) -> bool
+    ensures { result ≡ keeps V.eq v kept }
 {
-    if kept == Some(v) { insert(set, s) } else { set }
+    kept == Some(v)
 }
 
 // The set of the stations whose kept value is v, where `row[s]` is what station s keeps.
@@ -40,8 +40,11 @@ pub fn holders<V: Value>(row: &[Option<V>], v: V) -> u16
     ensures value { result ≡ holders_of V.eq v row.now }
     ensures members { (s : ℕ) → s < 16 → Decides (has result s) (slice_index_or row.now s None ≡ Some v) }
 {
-    row.iter()
-        .take(ROOM)
-        .enumerate()
-        .fold(0, |set, (s, kept)| with_holder(set, s, *kept, v))
+    those(
+        row.len().min(ROOM),
+        |s|
+            requires { s < length row.now }
+            ensures { result ≡ keeps V.eq v (slice_index_or row.entry.now s None) }
+        { keeps(row[s], v) },
+    )
 }

@@ -1,0 +1,5 @@
+use Rattle.grid.specs.Lent.{Filled}
+use Rattle.grid.proofs.fill.Given as goal
+
+abbrev pub invariant-loop-k : goal.invariant-loop-k
+invariant-loop-k g l = Filled l.from l.k l.x l.fn.xs l.xs

@@ -1,0 +1,17 @@
+use Rattle.std.proofs.Common.{slice_set, ap, sym, ◌∙◌, refl, arith}
+use Rattle.grid.proofs.Lent.{past_set}
+use Rattle.grid.specs.Grid.{pairs}
+use Rattle.tables.specs.View.{view}
+use Rattle.tables.proofs.Shown.{pairs-put}
+use Rattle.tables.proofs.Parts.{reads_become}
+use Rattle.tables.proofs.lent.Tables.set_read_number.Goals as goal
+
+pub returns-clause-shows : goal.returns-clause-shows
+returns-clause-shows g c =
+    let a = c.args in
+    let f = a.figures.now in
+    let t = a.self.now in
+    let sound = c.requires.sound in
+    reads_become f t sound _ _ (past_set _ _ _ c.pair_index.result a.read refl refl c.pair_index.ensures.within)
+    (ap (λ part. record (view f t) { reads = part })
+    (ap (λ at. pairs 0 f.stations (slice_set t.reads.now at a.read)) c.pair_index.ensures.value ∙ pairs-put 0 f.stations t.reads.now a.i a.j a.read sound.room.reads c.requires.station c.requires.register))
