@@ -1,8 +1,9 @@
 -- Where entries stand: each in a place of its own, and a write at one changes what is shown there alone.
-use Rattle.std.proofs.Common.{◌≡◌, ℕ, zero, suc, ◌+◌, ◌*◌, ◌/◌, ◌%◌, ◌<◌, ◌≤◌, Bool, true, false, cond, ◌&&◌, nat_lt, eqb, List, [], ◌∷◌, length, get_or, set, drop, take, refl, sym, ap, ap₂, ◌∙◌, subst, arith, slice_index_or, slice_set}
+use Rattle.std.proofs.Common.{◌≡◌, ℕ, zero, suc, ◌+◌, ◌-◌, ◌*◌, ◌/◌, ◌%◌, ◌<◌, ◌≤◌, Bool, true, false, cond, ◌&&◌, nat_lt, eqb, List, [], ◌∷◌, length, get_or, set, drop, take, refl, sym, ap, ap₂, ◌∙◌, subst, arith, slice_index_or, slice_set}
 use Rattle.std.proofs.lemmas.Nat.{mul-add-lt, div-mul-add, mod-mul-add}
 use Rattle.std.proofs.lemmas.Bool.{and_parts, and_from, cond_both, ltb-true, lt-ltb, eqb-true, eqb-false, eq-eqb, both_ways, false≢true}
 use Rattle.std.proofs.lemmas.List.{get_or-set_same, get_or-set_other}
+use Rattle.grid.specs.Lent.{Filled}
 use Rattle.grid.specs.Grid.{row_index, entry, entries, each_below, shown, line, pairs, triples, halves}
 
 pub row_below : (n h i j : ℕ) → i < h → j < n → row_index n i j < h * n
@@ -136,3 +137,44 @@ shown_clear d h n xs i is clear = within (nat_lt i h && each_below n is) refl
     within true e =
         let r = and_parts (nat_lt i h) (each_below n is) e in
         clear (entry n i is) (entry_below n h i is (ltb-true i h r.0) r.1)
+
+-- the entries of one row of a half become d
+pub halves-fill : {X : Type 0} (d : X) (n : ℕ) (xs ys : List X) (half i j : ℕ) → Filled (row_index n (row_index n half i) j * n) n d xs ys → half < 2 → i < n → j < n
+    → (g a b k : ℕ) → halves d n ys g a b k ≡ cond (eqb g half && (eqb a i && eqb b j)) d (halves d n xs g a b k)
+halves-fill {X} d n xs ys half i j filled f p q g a b k = within (nat_lt g 2 && each_below n (a ∷ b ∷ k ∷ [])) refl
+  where
+    first : ℕ
+    first = row_index n (row_index n half i) j * n
+    at : ℕ
+    at = row_index n (row_index n (row_index n g a) b) k
+    here : Bool
+    here = eqb g half && (eqb a i && eqb b j)
+    d_or_d : (t : Bool) → d ≡ cond t d d
+    d_or_d true = refl
+    d_or_d false = refl
+    columns : each_below n (a ∷ b ∷ k ∷ []) ≡ true → (a < n) × (b < n) × (k < n)
+    columns e =
+        let r = and_parts (nat_lt a n) (nat_lt b n && (nat_lt k n && true)) e in
+        let s = and_parts (nat_lt b n) (nat_lt k n && true) r.1 in
+        (ltb-true a n r.0, ltb-true b n s.0, ltb-true k n (and_parts (nat_lt k n) true s.1).0)
+    in_row : (t : Bool) → here ≡ t → (a < n) × (b < n) × (k < n) → get_or ys at d ≡ cond t d (get_or xs at d)
+    in_row true e l =
+        let r = and_parts (eqb g half) (eqb a i && eqb b j) e in
+        let s = and_parts (eqb a i) (eqb b j) r.1 in
+        let place : at ≡ first + k =
+        ap (λ u. row_index n (row_index n (row_index n u a) b) k) (eqb-true g half r.0)
+        ∙ ap₂ (λ u w. row_index n (row_index n (row_index n half u) w) k) (eqb-true a i s.0) (eqb-true b j s.1) in
+        filled.inside at d (omega (arith, place)) (omega (arith, place, l.2))
+    in_row false e l =
+        filled.outside at d
+        (λ above below.
+            let m = at - first in
+            let place : at ≡ row_index n (row_index n (row_index n half i) j) m = omega (arith, above) in
+            let same_row = row_same n (row_index n (row_index n g a) b) k (row_index n (row_index n half i) j) m l.2 (omega (arith, above, below)) place in
+            let same_half = row_same n (row_index n g a) b (row_index n half i) j l.1 q same_row.0 in
+            let same_first = row_same n g a half i l.0 p same_half.0 in
+            both_ways here e
+            (and_from (eqb g half) _ (eq-eqb g half same_first.0) (and_from (eqb a i) (eqb b j) (eq-eqb a i same_first.1) (eq-eqb b j same_half.1))))
+    within : (t : Bool) → (nat_lt g 2 && each_below n (a ∷ b ∷ k ∷ [])) ≡ t → cond t (get_or ys at d) d ≡ cond here d (cond t (get_or xs at d) d)
+    within false e = d_or_d here
+    within true e = in_row here refl (columns (and_parts (nat_lt g 2) (each_below n (a ∷ b ∷ k ∷ [])) e).1)

@@ -32,7 +32,7 @@ all_of_below : {A : Type 0} (P : A → Type 0) (m : ℕ → A) (top : ℕ) → (
 all_of_below P m top h l a = All-map P m l (All-weaker (λ k. k < top) (λ k. P (m k)) h l a)
 
 -- each element below n, of those counted from 0
-all_below : {A : Type 0} (P : A → Type 0) (m : ℕ → A) (a n top : ℕ) → a + n ≤ top → ((k : ℕ) → k < top → P (m k)) → All P (map m (range_with_len a n))
+pub all_below : {A : Type 0} (P : A → Type 0) (m : ℕ → A) (a n top : ℕ) → a + n ≤ top → ((k : ℕ) → k < top → P (m k)) → All P (map m (range_with_len a n))
 all_below P m a n top l h = all_of_below P m top h (range_with_len a n) (counting_below a n top l)
 
 module _ {V : Type 0} (c : Setting V) where

@@ -1,2 +1,4 @@
 pub mod Shown
 pub mod Parts
+pub mod Chain
+pub mod Opened

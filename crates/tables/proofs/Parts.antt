@@ -1,7 +1,8 @@
 -- One table of the bench changes, and the others stay.
-use Rattle.std.proofs.Common.{◌≡◌, ℕ, ◌*◌, ◌≤◌, List, length, Option, refl, ap, ◌∙◌, arith}
+use Rattle.std.proofs.Common.{◌≡◌, ℕ, ◌*◌, ◌≤◌, List, [], length, Option, refl, sym, subst, ap, ◌∙◌, arith}
 use Rattle.std.specs.Borrow.{MutBor}
 use Rattle.std.specs.List.{All}
+use Rattle.std.proofs.lemmas.List.Elements.{All-nil}
 use Rattle.grid.specs.Lent.{SamePast}
 use Rattle.grid.proofs.Lent.{past_none}
 use Rattle.pool.specs.declared.Pool.{Pool}
@@ -38,6 +39,15 @@ module _ {V : Type 0} (f : Figures V) (t : Tables V) where
         copies = omega (arith, lent.copies.length, room.copies);
         reads = omega (arith, lent.reads.length, room.reads);
         reports = omega (arith, lent.reports.length, room.reports);
+      }
+
+  -- where no message waits
+  pub fresh_becomes : (u : Tables V) {s : State V} → Room f t → Lent f t u → u.pool.waiting ≡ 0 → in_order u.pool ≡ [] → view f u ≡ s → Becomes f t u s
+  fresh_becomes u room lent waiting none shows =
+      record {
+        shows = shows;
+        sound = record { room = room_kept lent room; waiting = omega (arith, waiting); named = subst (All (Names n)) (sym none) (All-nil (Names n)) };
+        lent = lent;
       }
 
   -- tables that stay as long as they were have room as before

@@ -3,8 +3,9 @@ use Rattle.std.proofs.Common.{◌≡◌, ℕ, ◌+◌, ◌*◌, ◌<◌, ◌≤�
 use Rattle.std.proofs.Math.Path.{fun_ext}
 use Rattle.std.proofs.lemmas.Bool.{and_parts, and_from, eqb-true, eq-eqb}
 use Rattle.std.proofs.lemmas.Bool.Decides.{nat_tests}
+use Rattle.grid.specs.Lent.{Filled}
 use Rattle.grid.specs.Grid.{row_index, line, pairs, triples, halves}
-use Rattle.grid.proofs.Entries.{line-set, pairs-set, triples-set, halves-set, halves_is}
+use Rattle.grid.proofs.Entries.{line-set, pairs-set, triples-set, halves-set, halves-fill, halves_is}
 use Rattle.machine.specs.declared.figures.Figures.{Figures}
 use Rattle.machine.specs.declared.station.Stage.{Stage}
 use Rattle.machine.specs.declared.station.Station.{Station}
@@ -12,7 +13,7 @@ use Rattle.machine.specs.declared.station.RegisterCopy.{RegisterCopy}
 use Rattle.machine.specs.State.{Cell, put, put_pair, put_triple}
 use Rattle.tables.specs.declared.lent.Vote.{Vote}
 use Rattle.tables.specs.declared.lent.Vote.TheVariants.{Echo, Ready}
-use Rattle.tables.specs.View.{first_copy, half, votes_shown, cells, votes_of, vote}
+use Rattle.tables.specs.View.{first_copy, half, votes_shown, cells, votes_of, no_votes, vote}
 
 -- a table that is another but for one entry
 put_pair_by : {A : Type 0} (F G : ℕ → ℕ → A) (i j : ℕ) (x : A) → ((a b : ℕ) → (eqb a i && eqb b j) ≡ false → F a b ≡ G a b) → F i j ≡ x → F ≡ put_pair i j x G
@@ -77,6 +78,28 @@ module _ {V : Type 0} (f : Figures V) where
       other kind a b m e = grind (arith, nat_tests)
       same : (m : ℕ) → cond (eqb i i && (eqb j j && eqb m k)) (Some v) (votes_shown n votes Ready i j m) ≡ put k (Some v) (votes_shown n votes Ready i j) m
       same m = grind (arith, nat_tests)
+
+-- the votes of a kind in one cell are gone
+pub cells-clear : {V : Type 0} (f : Figures V) (copies : List (RegisterCopy V)) (us vs : List (Option V)) (kind : Vote) (i j : ℕ)
+    → Filled (row_index f.stations (row_index f.stations (half kind) i) j * f.stations) f.stations None vs us → i < f.stations → j < f.stations
+    → cells f copies us ≡ put_pair i j (no_votes kind (cells f copies vs i j)) (cells f copies vs)
+cells-clear {V} f copies us vs kind i j filled p q =
+    votes_by f copies us vs i j _ (λ g a b k e. shown kind filled g a b k ∙ away kind g a b k e) (here kind filled)
+  where
+    shown : (kind : Vote) → Filled (row_index f.stations (row_index f.stations (half kind) i) j * f.stations) f.stations None vs us → (g : Vote) (a b k : ℕ)
+        → votes_shown f.stations us g a b k ≡ cond (eqb (half g) (half kind) && (eqb a i && eqb b j)) None (votes_shown f.stations vs g a b k)
+    shown Echo filled g a b k = halves-fill None f.stations vs us 0 i j filled (omega arith) p q (half g) a b k
+    shown Ready filled g a b k = halves-fill None f.stations vs us 1 i j filled (omega arith) p q (half g) a b k
+    away : (kind g : Vote) (a b k : ℕ) → (eqb a i && eqb b j) ≡ false
+        → cond (eqb (half g) (half kind) && (eqb a i && eqb b j)) None (votes_shown f.stations vs g a b k) ≡ votes_shown f.stations vs g a b k
+    away kind g a b k e = grind (arith, nat_tests)
+    same : (k : ℕ) (o : Option V) → cond (true && (eqb i i && eqb j j)) None o ≡ None
+    same k o = grind (arith, nat_tests)
+    cell : (ℕ → Option V) → (ℕ → Option V) → Cell V
+    cell x y = record { copy = pairs (first_copy f.opening) f.stations copies i j; echoes = x; readies = y }
+    here : (kind : Vote) → Filled (row_index f.stations (row_index f.stations (half kind) i) j * f.stations) f.stations None vs us → cells f copies us i j ≡ no_votes kind (cells f copies vs i j)
+    here Echo filled = ap₂ cell (fun_ext (λ k. shown Echo filled Echo i j k ∙ same k _)) (fun_ext (λ k. shown Echo filled Ready i j k))
+    here Ready filled = ap₂ cell (fun_ext (λ k. shown Ready filled Echo i j k)) (fun_ext (λ k. shown Ready filled Ready i j k ∙ same k _))
 
 -- a table by one, two or three stations, after a write
 pub line-put : {X : Type 0} (d : X) (n : ℕ) (xs : List X) (i : ℕ) (x : X) → n ≤ length xs → i < n → line d n (set xs i x) ≡ put i x (line d n xs)

@@ -105,6 +105,9 @@ abbrev pub no_votes : {V : Type 0} → Vote → Cell V → Cell V
 no_votes Echo c = record { copy = c.copy; echoes = λ _. None; readies = c.readies }
 no_votes Ready c = record { copy = c.copy; echoes = c.echoes; readies = λ _. None }
 
+abbrev pub with_no_votes : {V : Type 0} → Vote → ℕ → ℕ → State V → State V
+with_no_votes kind i j s = with_cell i j (no_votes kind (s.cell i j)) s
+
 -- the state of a bench that has just been opened
 abbrev pub at_opening : {V : Type 0} → Figures V → State V
 at_opening f =

@@ -2,12 +2,12 @@
 ghost use Rattle.std.specs.Prelude.{◌≡◌, ℕ, ◌+◌, ◌<◌, ◌≤◌, [], ◌∷◌};
 ghost use Rattle.machine.specs.State.{fresh_cell, put_triple, remove, send, to_all, with_cell, with_held, with_reads, with_report, with_stage, with_written};
 ghost use Rattle.machine.specs.Calls.{Names};
-ghost use Rattle.tables.specs.View.{view, vote, with_copy, Sound, Becomes};
+ghost use Rattle.tables.specs.View.{view, vote, with_no_votes, with_copy, at_opening, Room, Sound, Becomes, SendsEach};
 
-use grid::{pair_index, put, triple_index, vote_index};
+use grid::{fill, pair_index, put, triple_index, vote_index, votes_index};
 use machine::figures::Figures;
 use machine::message::Message;
-use machine::station::{RegisterCopy, Stage};
+use machine::station::{RegisterCopy, Stage, Station};
 
 use crate::lent::{Tables, Vote};
 
@@ -33,6 +33,37 @@ impl<'a, V: Copy> Tables<'a, V> {
     {
         let at = vote_index(figures.stations, kind.half(), i, j, k);
         put(self.votes, at, Some(v));
+    }
+
+    // Votes of a kind at station i for register j are no longer kept.
+    fn clear_votes(&mut self, figures: &Figures<V>, kind: Vote, i: usize, j: usize)
+        requires sound { Sound figures.now self.old }
+        requires station { i < figures.now.stations }
+        requires register { j < figures.now.stations }
+        ensures shows { Becomes figures.now self.old self.new (with_no_votes kind i j (view figures.now self.old)) }
+        ensures waiting { self.new.pool.waiting ≡ self.old.pool.waiting }
+    {
+        let first = votes_index(figures.stations, kind.half(), i, j);
+        fill(self.votes, first, figures.stations, None);
+    }
+
+    // Station i's copy of register j is a new one, with which it has sent nothing and nobody has voted.
+    pub fn renew(&mut self, figures: &Figures<V>, i: usize, j: usize, number: u64, value: V)
+        requires sound { Sound figures.now self.old }
+        requires station { i < figures.now.stations }
+        requires register { j < figures.now.stations }
+        ensures shows { Becomes figures.now self.old self.new (with_cell i j (fresh_cell value number) (view figures.now self.old)) }
+        ensures waiting { self.new.pool.waiting ≡ self.old.pool.waiting }
+    {
+        self.clear_votes(figures, Vote::Echo, i, j);
+        self.clear_votes(figures, Vote::Ready, i, j);
+        let copy = RegisterCopy {
+            value,
+            number,
+            echoed: false,
+            readied: false,
+        };
+        self.set_copy(figures, i, j, copy);
     }
 
     pub fn set_stage(&mut self, figures: &Figures<V>, i: usize, stage: Stage<V>)
@@ -107,5 +138,42 @@ impl<'a, V: Copy> Tables<'a, V> {
         ensures waiting { self.new.pool.waiting ≡ self.old.pool.waiting + 1 }
     {
         self.pool.join(message);
+    }
+
+    // A message to each station joins the pool, from station 0 on.
+    pub fn send_each<F: Fn(usize) -> Message<V>>(&mut self, figures: &Figures<V>, message: F)
+        requires sound { Sound figures.now self.old }
+        requires callable { F.IsAlwaysCallable message }
+        requires room { self.old.pool.waiting + figures.now.stations ≤ figures.now.places }
+        ensures shows { SendsEach figures.now (F.post message) self.old self.new }
+        ensures waiting { self.new.pool.waiting ≡ self.old.pool.waiting + figures.now.stations }
+    {
+        self.pool.join_each(figures.stations, message);
+    }
+
+    // The tables of a bench that has just been opened.
+    pub fn clear(&mut self, figures: &Figures<V>)
+        requires { Room figures.now self.old }
+        ensures { Becomes figures.now self.old self.new (at_opening figures.now) }
+    {
+        let n = figures.stations;
+        let copy = RegisterCopy {
+            value: figures.opening,
+            number: 0,
+            echoed: false,
+            readied: false,
+        };
+        let station = Station {
+            opening: figures.opening,
+            written: 0,
+            stage: Stage::Idle,
+        };
+        self.pool.clear();
+        fill(self.votes, 0, 2 * n * n * n, None);
+        fill(self.held, 0, n * n * n, 0);
+        fill(self.stations, 0, n, station);
+        fill(self.copies, 0, n * n, copy);
+        fill(self.reads, 0, n * n, 0);
+        fill(self.reports, 0, n * n, 0);
     }
 }
