@@ -126,6 +126,14 @@ halves_is d n xs half i j k f p q r =
     shown_is d 2 n xs half (i ∷ j ∷ k ∷ []) f
     (and_from (nat_lt i n) _ (lt-ltb i n p) (and_from (nat_lt j n) (nat_lt k n && true) (lt-ltb j n q) (and-true (nat_lt k n) ∙ lt-ltb k n r)))
 
+-- there is nothing past the columns
+pub shown_past : {X : Type 0} (d : X) (h n : ℕ) (xs : List X) (i : ℕ) (is : List ℕ) → each_below n is ≡ false → shown d h n xs i is ≡ d
+shown_past d h n xs i is e = ap (λ b. cond (nat_lt i h && b) (get_or xs (entry n i is) d) d) e ∙ none (nat_lt i h)
+  where
+    none : (b : Bool) → cond (b && false) (get_or xs (entry n i is) d) d ≡ d
+    none true = refl
+    none false = refl
+
 -- Tables whose entries all are d
 
 pub shown_clear : {X : Type 0} (d : X) (h n : ℕ) (xs : List X) → (i : ℕ) (is : List ℕ) → ((k : ℕ) → k < entries n h is → get_or xs k d ≡ d)

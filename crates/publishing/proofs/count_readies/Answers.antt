@@ -1,0 +1,13 @@
+use Rattle.std.proofs.Common.{rules, tests}
+use Rattle.machine.specs.State.{setting}
+use Rattle.machine.specs.Operations.{test_freshness}
+use Rattle.tables.specs.View.{view}
+use Rattle.tables.proofs.Chain.{and_then, becomes_same}
+use Rattle.publishing.proofs.count_readies.Goals as goal
+
+pub returns-then-is_quorum-clause-shows : goal.returns-then-is_quorum-clause-shows
+returns-then-is_quorum-clause-shows g c =
+    let f = c.args.figures.now in
+    let t = c.args.tables.now in
+    becomes_same f t _ _ _ (search (rules, tests))
+    (and_then f t _ _ _ (test_freshness (setting (g.S.QuorumSystem.families c.args.system.now) g.V.PartialEq.eq) c.args.i c.args.publication.register) c.take_value.ensures.shows c.test_freshness.ensures.shows)
