@@ -8,10 +8,10 @@ use Rattle.machine.specs.declared.station.RegisterCopy.{RegisterCopy}
 use Rattle.machine.specs.State.{Cell, State, put_pair, with_cell}
 use Rattle.tables.specs.declared.lent.Tables.{Tables}
 use Rattle.tables.specs.declared.lent.Vote.TheVariants.{Echo, Ready}
-use Rattle.tables.specs.View.{view, no_votes, with_no_votes, with_copy, Lent, Becomes}
+use Rattle.tables.specs.View.{view, no_votes, with_no_votes, with_copy, SameLent, Becomes}
 
 module _ {V : Type 0} (f : Figures V) where
-  lent_then : (a b c : Tables V) → Lent f a b → Lent f b c → Lent f a c
+  lent_then : (a b c : Tables V) → SameLent f a b → SameLent f b c → SameLent f a c
   lent_then a b c p q =
       record {
         messages = past_then _ _ _ _ _ (omega arith) p.messages q.messages;

@@ -14,19 +14,19 @@ use Rattle.machine.specs.declared.station.RegisterCopy.{RegisterCopy}
 use Rattle.machine.specs.State.{State}
 use Rattle.machine.specs.Calls.{Names}
 use Rattle.tables.specs.declared.lent.Tables.{Tables}
-use Rattle.tables.specs.View.{view, Room, Sound, Lent, Becomes}
+use Rattle.tables.specs.View.{view, Room, Sound, SameLent, Becomes}
 
 module _ {V : Type 0} (f : Figures V) (t : Tables V) where
   abbrev n : ℕ
   n = f.stations
 
-  lent_none : Lent f t t
+  lent_none : SameLent f t t
   lent_none = record { messages = past_none _ t.pool.slots; votes = past_none _ t.votes; held = past_none _ t.held; stations = past_none _ t.stations; copies = past_none _ t.copies; reads = past_none _ t.reads; reports = past_none _ t.reports }
 
   pub stays : Sound f t → Becomes f t t (view f t)
   stays sound = record { shows = refl; sound = sound; lent = lent_none }
 
-  room_kept : {u : Tables V} → Lent f t u → Room f t → Room f u
+  room_kept : {u : Tables V} → SameLent f t u → Room f t → Room f u
   room_kept lent room =
       record {
         few = room.few;
@@ -42,7 +42,7 @@ module _ {V : Type 0} (f : Figures V) (t : Tables V) where
       }
 
   -- where no message waits
-  pub fresh_becomes : (u : Tables V) {s : State V} → Room f t → Lent f t u → u.pool.waiting ≡ 0 → in_order u.pool ≡ [] → view f u ≡ s → Becomes f t u s
+  pub fresh_becomes : (u : Tables V) {s : State V} → Room f t → SameLent f t u → u.pool.waiting ≡ 0 → in_order u.pool ≡ [] → view f u ≡ s → Becomes f t u s
   fresh_becomes u room lent waiting none shows =
       record {
         shows = shows;
@@ -52,7 +52,7 @@ module _ {V : Type 0} (f : Figures V) (t : Tables V) where
 
   -- tables that stay as long as they were have room as before
   module _ (sound : Sound f t) (s : State V) where
-    becomes : (u : Tables V) → Lent f t u → u.pool.waiting ≤ f.places → All (Names n) (in_order u.pool) → view f u ≡ s → Becomes f t u s
+    becomes : (u : Tables V) → SameLent f t u → u.pool.waiting ≤ f.places → All (Names n) (in_order u.pool) → view f u ≡ s → Becomes f t u s
     becomes u lent waiting named shows =
         record {
           shows = shows;

@@ -81,7 +81,7 @@ pub record Sound {V : Type 0} (f : Figures V) (t : Tables V) : Type 0 where
   pub named : All (Names f.stations) (in_order t.pool)
 
 -- the slices are the same ones, and past what the bench uses of them they hold what they held
-pub record Lent {V : Type 0} (f : Figures V) (before after : Tables V) : Type 0 where
+pub record SameLent {V : Type 0} (f : Figures V) (before after : Tables V) : Type 0 where
   pub messages : SamePast f.places before.pool.slots after.pool.slots
   pub votes : SamePast (2 * f.stations * f.stations * f.stations) before.votes after.votes
   pub held : SamePast (f.stations * f.stations * f.stations) before.held after.held
@@ -94,7 +94,7 @@ pub record Lent {V : Type 0} (f : Figures V) (before after : Tables V) : Type 0 
 pub record Becomes {V : Type 0} (f : Figures V) (before after : Tables V) (s : State V) : Type 0 where
   pub shows : view f after ≡ s
   pub sound : Sound f after
-  pub lent : Lent f before after
+  pub lent : SameLent f before after
 
 -- station i's copy of register j becomes another
 abbrev pub with_copy : {V : Type 0} → ℕ → ℕ → RegisterCopy V → State V → State V

@@ -1,0 +1,6 @@
+//! The calls on the tables of an open bench, and its opening. Each answers exactly what the machine answers and leaves
+//! exactly the machine's state; one that is declined leaves every table as it was.
+#![tactic(auto)]
+
+pub mod begin;
+pub mod permit;
