@@ -2,5 +2,8 @@
 //! exactly the machine's state; one that is declined leaves every table as it was.
 #![tactic(auto)]
 
+pub mod act;
 pub mod begin;
+pub mod message;
 pub mod permit;
+pub mod take;

@@ -1,0 +1,49 @@
+//! Messages that leave the pool: one is taken, or withdrawn.
+ghost use Rattle.std.specs.Prelude.{◌≡◌, slice_get};
+ghost use Rattle.machine.specs.State.{setting, remove};
+ghost use Rattle.machine.specs.Operations.{leaves};
+ghost use Rattle.machine.specs.Calls.{unless, take_decline, receive, withdraw_decline};
+ghost use Rattle.tables.specs.View.{view, Sound};
+ghost use Rattle.calls.specs.Follows.{Follows};
+
+use decline::Decline;
+use machine::call::Answer;
+use machine::figures::Figures;
+use quorum::QuorumSystem;
+use station_set::contains;
+use tables::lent::Tables;
+use value::Value;
+
+use crate::act::{act, is_ahead};
+use crate::message::{receiver, sender};
+use crate::permit::{has_places, require};
+
+// The message at a place reaches its receiver, which acts on it if it is correct.
+pub fn take<V: Value, S: QuorumSystem>(tables: &mut Tables<V>, figures: &Figures<V>, system: &S, place: u64) -> Result<Answer<V>, Decline>
+    requires { Sound figures.now tables.old }
+    ensures { Follows figures.now tables.old tables.new result (unless (take_decline (setting (S.families system.now) V.eq) (view figures.now tables.old) place) (receive (setting (S.families system.now) V.eq) place (view figures.now tables.old) (slice_get (view figures.now tables.old).pool place)) (view figures.now tables.old)) }
+{
+    require(system.size() == figures.stations, Decline::OtherSize)?;
+    let place = place as usize;
+    let message = tables.message(figures, place).ok_or(Decline::NoSuchMessage)?;
+    if contains(figures.faulty, receiver(&message)) {
+        tables.remove(figures, place);
+        return Ok(Answer::Done);
+    }
+    require(!is_ahead(tables, figures, &message), Decline::Ahead)?;
+    require(has_places(tables, figures), Decline::PoolFull)?;
+    tables.remove(figures, place);
+    Ok(act(tables, figures, system, message))
+}
+
+// The message at a place leaves, if its sender is faulty.
+pub fn withdraw<V: Copy>(tables: &mut Tables<V>, figures: &Figures<V>, place: u64) -> Result<Answer<V>, Decline>
+    requires { Sound figures.now tables.old }
+    ensures { Follows figures.now tables.old tables.new result (unless (withdraw_decline (view figures.now tables.old) (slice_get (view figures.now tables.old).pool place)) (leaves (remove place (view figures.now tables.old))) (view figures.now tables.old)) }
+{
+    let place = place as usize;
+    let message = tables.message(figures, place).ok_or(Decline::NoSuchMessage)?;
+    require(contains(figures.faulty, sender(&message)), Decline::WrongSide)?;
+    tables.remove(figures, place);
+    Ok(Answer::Done)
+}
