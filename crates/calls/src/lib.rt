@@ -4,6 +4,9 @@
 
 pub mod act;
 pub mod begin;
+pub mod count;
+pub mod forge;
 pub mod message;
+pub mod open;
 pub mod permit;
 pub mod take;

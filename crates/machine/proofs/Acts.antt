@@ -4,7 +4,7 @@ use Rattle.std.proofs.Common.{◌≡◌, ℕ, suc, ◌<◌, ◌≤◌, max, Bool
 use Rattle.std.specs.List.{remove as removed, All, slice_get}
 use Rattle.std.proofs.lemmas.Bool.{cond_both, and_parts, and_cases, not-true, not-false, leb-true, leb-false, ltb-false, eqb-true, cases_Bool, both_ways}
 use Rattle.std.proofs.lemmas.Bool.Decides.{nat_tests}
-use Rattle.std.proofs.lemmas.List.Elements.{All-nil, All-cons, All-weaker}
+use Rattle.std.proofs.lemmas.List.Elements.{All-weaker}
 use Rattle.decline.specs.declared.Decline.{Decline}
 use Rattle.station_set.specs.Sets.{has, Inside, with_station}
 use Rattle.machine.specs.declared.message.Message.{Message}
@@ -19,8 +19,9 @@ use Rattle.machine.specs.declared.call.Answer.TheVariants.{Done, WriteEnded, Rea
 use Rattle.machine.specs.State.{Setting, Cell, State, number, is_faulty, put_triple, with_cell, with_stage, with_held, remove, send}
 use Rattle.machine.specs.Operations.{Outcome, leaves, fresh_reports, start_catching, freshness_at, write_done_at, keep_report, state_at, catch_up_done_at}
 use Rattle.machine.specs.Publishing.{mark_readied, vote_echo, vote_ready, echo_voters, ready_voters, send_echo, send_ready, take_value, on_init, is_none, count_echoes, on_echo, join_readies, count_readies, on_ready}
-use Rattle.machine.specs.Calls.{sender, receiver, ahead, unless_old, act, unless, is_idle, first_that_fits, write_reasons, write_decline, begin_write, read_reasons, read_decline, begin_read, receive_reasons, receive_decline, take_decline, receive, forged, forge_reasons, forge_decline, join_forged, withdraw_decline, step}
-use Rattle.machine.proofs.Tables.{put_pair_same, is_absent, all_nth, all_one}
+use Rattle.machine.specs.Calls.{sender, receiver, ahead, unless_old, act, unless, is_idle, write_reasons, write_decline, begin_write, read_reasons, read_decline, begin_read, receive_reasons, receive_decline, take_decline, receive, forged, forge_reasons, forge_decline, join_forged, withdraw_decline, step}
+use Rattle.machine.proofs.Reasons.{unfit}
+use Rattle.machine.proofs.Tables.{put_pair_same, is_absent, all_one}
 use Rattle.machine.proofs.Pools.{Swap, swap_removed}
 use Rattle.machine.proofs.Only.{Only, only_write, only_read, About, own_act}
 
@@ -356,20 +357,6 @@ module _ {V : Type 0} (c : Setting V) (f : ℕ) where
 
   correct_inside : (s : State V) → Fits s → (i : ℕ) → In f i → is_faulty s i ≡ false
   correct_inside s w i h = ⊎_elim (λ e. absurd (both_ways _ h (w.1 i e))) (λ e. e) (cases_Bool (is_faulty s i))
-
-  -- where no reason fits, each is false
-  none_fits : (l : List (Bool × Decline)) → first_that_fits l ≡ None → All (λ reason. reason.0 ≡ false) l
-  none_fits [] e = All-nil (λ reason. reason.0 ≡ false)
-  none_fits (reason ∷ l) e =
-      let w = pass reason.0 (first_that_fits l) reason.1 e in All-cons (λ reason. reason.0 ≡ false) reason l w.0 (none_fits l w.1)
-    where
-      pass : (t : Bool) (o : Option Decline) (d : Decline) → cond t (Some d) o ≡ None → (t ≡ false) × (o ≡ None)
-      pass true o d e = absurd (let z : ◌≡◌ {A = ℕ} 0 1 = cc in omega arith)
-      pass false o d e = (refl, e)
-
-  -- the reason at a place is false
-  pub unfit : (l : List (Bool × Decline)) → first_that_fits l ≡ None → (p : ℕ) (reason : Bool × Decline) → slice_get l p ≡ Some reason → reason.0 ≡ false
-  unfit l e p reason at = all_nth (λ reason. reason.0 ≡ false) l p reason (none_fits l e) at
 
   pass_not : (t : Bool) (o : Option Decline) (d : Decline) → cond t o (Some d) ≡ None → (t ≡ true) × (o ≡ None)
   pass_not true o d e = (refl, e)

@@ -2,6 +2,7 @@ pub mod Tables
 pub mod Pools
 pub mod Cases
 pub mod Only
+pub mod Reasons
 pub mod Acts
 pub mod Quorums
 pub mod Frames

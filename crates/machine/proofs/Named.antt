@@ -1,8 +1,8 @@
 -- Every waiting message, and every operation, names stations and registers of the bench only.
-use Rattle.std.proofs.Common.{◌≡◌, ℕ, suc, ◌+◌, ◌<◌, ◌≤◌, true, ◌&&◌, eqb, List, [], ◌∷◌, map, Some, None, Option, refl, ap, ◌∙◌, subst, ⊎_elim, arith, Result}
+use Rattle.std.proofs.Common.{◌≡◌, ℕ, suc, ◌+◌, ◌<◌, ◌≤◌, ◌&&◌, eqb, List, [], ◌∷◌, map, refl, ap, subst, ⊎_elim, arith, Result}
 use Rattle.decline.specs.declared.Decline.{Decline}
 use Rattle.std.specs.List.{range_with_len, All}
-use Rattle.std.proofs.lemmas.Bool.{both_ways, cond_both, and_parts, eqb-true, ltb-true, not-false, and_cases}
+use Rattle.std.proofs.lemmas.Bool.{both_ways, cond_both, and_parts, ltb-true, not-false}
 use Rattle.std.proofs.lemmas.List.Elements.{All-nil, All-cons, All-append, All-weaker, All-map, All-filter}
 use Rattle.std.proofs.lemmas.List.FromFn.{length-range_with_len, get_or-range_with_len}
 use Rattle.station_set.specs.Sets.{Among, with_station}
@@ -11,7 +11,6 @@ use Rattle.machine.specs.declared.message.Message.{Message}
 use Rattle.machine.specs.declared.message.Message.TheVariants.{Init, Echo, Ready, WriteDone, Read, State as StateOf, CatchUp, CatchUpDone}
 use Rattle.machine.specs.declared.station.Stage.{Stage}
 use Rattle.machine.specs.declared.station.Stage.TheVariants.{Idle, Writing, Querying, Catching}
-use Rattle.machine.specs.declared.call.Forgery.{Forgery}
 use Rattle.machine.specs.declared.call.Opening.{Opening}
 use Rattle.machine.specs.declared.call.Call.{Call}
 use Rattle.machine.specs.declared.call.Answer.{Answer}
@@ -19,11 +18,11 @@ use Rattle.machine.specs.declared.figures.Figures.{Figures}
 use Rattle.machine.specs.State.{Setting, Cell, State, number, with_cell, with_stage, remove, send, to_all}
 use Rattle.machine.specs.Operations.{Outcome, leaves, start_catching, freshness_at, test_freshness, write_done_at, keep_report, state_at, catch_up_done_at}
 use Rattle.machine.specs.Publishing.{vote_echo, vote_ready, send_echo, send_ready, take_value, count_echoes, on_echo, join_readies, count_readies, on_ready}
-use Rattle.machine.specs.Calls.{Names, act, unless_old, begin_write, begin_read, write_reasons, read_reasons, forge_reasons, forge_decline, uses_register, forged, opened, step}
+use Rattle.machine.specs.Calls.{Names, act, unless_old, begin_write, begin_read, write_reasons, read_reasons, opened, step}
 use Rattle.machine.proofs.Cases.{after_call}
 use Rattle.machine.proofs.Tables.{put_all, all_nth, all_removed, all_one}
 use Rattle.machine.proofs.Quorums.{joins}
-use Rattle.machine.proofs.Acts.{unfit}
+use Rattle.machine.proofs.Reasons.{unfit, forged_names}
 
 counting_below : (a n top : ℕ) → a + n ≤ top → All (λ k. k < top) (range_with_len a n)
 counting_below a n top l i d lt = omega (arith, get_or-range_with_len a n i d (omega (arith, length-range_with_len a n)), length-range_with_len a n)
@@ -176,29 +175,6 @@ module _ {V : Type 0} (c : Setting V) where
       by _ (cond_both _ (send (CatchUpDone i k j x ∷ []) s) _ Named (λ _. sends s (CatchUpDone i k j x ∷ []) (all_one (Names s.figures.stations) _ (a.1, a.0, a.2)) h) (λ _. record { messages = h.messages; stages = h.stages }))
   acts s (CatchUpDone k i j x) a h = caught s i k j x (s.station i).stage refl a.0 a.2 h
 
-  -- a forged message names what its fields name
-  data NamesIf (n : ℕ) : Option (Message V) → Type 0 where
-    no_message : NamesIf n None
-    message : (m : Message V) → Names n m → NamesIf n (Some m)
-
-  forges : (n highest : ℕ) (f : Forgery V) → f.sender < n → f.receiver < n → (uses_register f.kind ≡ true → f.register < n) → NamesIf n (forged highest f)
-  forges n highest f ls lr lj =
-      cond_both (eqb f.kind 1) _ _ (NamesIf n) (λ _. cond_both _ _ None (NamesIf n) (λ _. message _ (ls, lr)) (λ _. no_message)) (λ _.
-      cond_both (eqb f.kind 2) _ _ (NamesIf n) (λ e. cond_both _ _ None (NamesIf n) (λ _. message _ (ls, lr, lj (used 2 e refl))) (λ _. no_message)) (λ _.
-      cond_both (eqb f.kind 3) _ _ (NamesIf n) (λ e. cond_both _ _ None (NamesIf n) (λ _. message _ (ls, lr, lj (used 3 e refl))) (λ _. no_message)) (λ _.
-      cond_both (eqb f.kind 4) _ _ (NamesIf n) (λ _. cond_both _ _ None (NamesIf n) (λ _. message _ (ls, lr)) (λ _. no_message)) (λ _.
-      cond_both (eqb f.kind 5) _ _ (NamesIf n) (λ e. cond_both _ _ None (NamesIf n) (λ _. message _ (ls, lr, lj (used 5 e refl))) (λ _. no_message)) (λ _.
-      cond_both (eqb f.kind 6) _ _ (NamesIf n) (λ e. cond_both _ _ None (NamesIf n) (λ _. message _ (ls, lr, lj (used 6 e refl))) (λ _. no_message)) (λ _.
-      cond_both (eqb f.kind 7) _ _ (NamesIf n) (λ e. cond_both _ _ None (NamesIf n) (λ _. message _ (ls, lr, lj (used 7 e refl))) (λ _. no_message)) (λ _.
-      cond_both (eqb f.kind 8) _ _ (NamesIf n) (λ e. cond_both _ _ None (NamesIf n) (λ _. message _ (ls, lr, lj (used 8 e refl))) (λ _. no_message)) (λ _. no_message))))))))
-    where
-      used : (kind : ℕ) → eqb f.kind kind ≡ true → uses_register kind ≡ true → uses_register f.kind ≡ true
-      used kind e u = ap uses_register (eqb-true f.kind kind e) ∙ u
-
-  forge_names : (n : ℕ) (o : Option (Message V)) (m : Message V) → NamesIf n o → o ≡ Some m → Names n m
-  forge_names n None m no_message e = absurd (grind arith)
-  forge_names n (Some k) m (message _ a) e = let q : k ≡ m = cc in subst (Names n) q a
-
   writes : (s : State V) (i : ℕ) (v : V) → i < s.figures.stations → Named s → Named (begin_write i v s)
   writes s i v li h =
       let x : ℕ = suc (s.station i).written in
@@ -222,22 +198,14 @@ module _ {V : Type 0} (c : Setting V) where
         stays = h;
         removes = λ p. removes s p h;
         acts = λ p m e. (acts (remove p s) m (all_nth (Names n) s.pool p m h.messages e) (removes s p h)).state;
-        forges = λ f m e d. sends s (m ∷ []) (all_one (Names s.figures.stations) m (forged_names f m e d)) h;
-        writes = λ i v e. writes s i v (ltb-true i n (not-false _ (unfit c 0 (write_reasons s i) e 0 _ refl))) h;
-        asks = λ i j e. let w = and_parts _ _ (not-false _ (unfit c 0 (read_reasons s i j) e 0 _ refl)) in asks s i j (ltb-true i n w.0) (ltb-true j n w.1) h;
+        forges = λ f m e d. sends s (m ∷ []) (all_one (Names s.figures.stations) m (forged_names s f m e d)) h;
+        writes = λ i v e. writes s i v (ltb-true i n (not-false _ (unfit (write_reasons s i) e 0 _ refl))) h;
+        asks = λ i j e. let w = and_parts _ _ (not-false _ (unfit (read_reasons s i j) e 0 _ refl)) in asks s i j (ltb-true i n w.0) (ltb-true j n w.1) h;
       })
       call
     where
       n : ℕ
       n = s.figures.stations
-
-      forged_names : (f : Forgery V) (m : Message V) → forged s.figures.highest f ≡ Some m → forge_decline s f (Some m) ≡ None → Names n m
-      forged_names f m e d =
-          let none = unfit c 0 (forge_reasons s f (Some m)) d in
-          let w = and_parts _ _ (not-false _ (none 0 _ refl)) in
-          forge_names n (forged s.figures.highest f) m
-          (forges n s.figures.highest f (ltb-true _ _ w.0) (ltb-true _ _ w.1)
-          (λ u. ⊎_elim (λ no. absurd (both_ways _ no u)) (λ no. ltb-true _ _ (not-false _ no)) (and_cases _ _ (none 1 _ refl)))) e
 
   pub named_opened : (o : Opening V) → Named (opened c o)
   named_opened o = record { messages = All-nil (Names c.system.stations); stages = λ a. tt }

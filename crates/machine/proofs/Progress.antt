@@ -14,7 +14,8 @@ use Rattle.machine.specs.Operations.{Outcome, leaves}
 use Rattle.machine.specs.Calls.{write_reasons, write_decline, read_reasons, read_decline, begin_write, begin_read, step}
 use Rattle.machine.specs.Runs.{is_done, is_write_of, is_read_of, ends_operation}
 use Rattle.machine.proofs.Tables.{put_all}
-use Rattle.machine.proofs.Acts.{EndWrite, EndRead, Guard, Fits, Silent, Went, quietly, write_ends, read_ends, unless_both, unfit, write_idle, read_idle, take_went, forging_went, withdrawing_went}
+use Rattle.machine.proofs.Reasons.{unfit}
+use Rattle.machine.proofs.Acts.{EndWrite, EndRead, Guard, Fits, Silent, Went, quietly, write_ends, read_ends, unless_both, write_idle, read_idle, take_went, forging_went, withdrawing_went}
 use Rattle.machine.proofs.Only.{only_write, only_read}
 use Rattle.machine.proofs.Moments.{Goes_on, goes_on_refl, Steady, chain_steady, steady_same}
 
@@ -68,7 +69,7 @@ module _ {V : Type 0} (c : Setting V) (f : ℕ) where
     wrote : (k : ℕ) (v : V) → write_decline s k ≡ None → Progress i s (BeginWrite k v) (leaves (begin_write k v s))
     wrote k v e =
         ⊎_elim
-        (λ q. writes v (ap (λ z. BeginWrite z v) q) refl (subst (λ z. z < s.figures.stations) q (ltb-true k _ (not-false _ (unfit c f (write_reasons s k) e 0 _ refl))))
+        (λ q. writes v (ap (λ z. BeginWrite z v) q) refl (subst (λ z. z < s.figures.stations) q (ltb-true k _ (not-false _ (unfit (write_reasons s k) e 0 _ refl))))
         (ap (λ z. (s.station z).stage) (sym q) ∙ write_idle c f s k e) (ap (λ z. begin_write z v s) q))
         (λ ne. let o = only_write k v s in
         goes_on (steady_same c f i s (begin_write k v s) (o.station_same i (λ z. ne (sym z))) (λ j. o.reads_same i j (λ z. ne (sym z)))) refl
@@ -79,7 +80,7 @@ module _ {V : Type 0} (c : Setting V) (f : ℕ) where
     read k j e =
         ⊎_elim
         (λ q. asks j (ap (λ z. BeginRead z j) q) refl
-        (subst (λ z. z < s.figures.stations) q (ltb-true k _ (and_parts _ _ (not-false _ (unfit c f (read_reasons s k j) e 0 _ refl))).0))
+        (subst (λ z. z < s.figures.stations) q (ltb-true k _ (and_parts _ _ (not-false _ (unfit (read_reasons s k j) e 0 _ refl))).0))
         (ap (λ z. (s.station z).stage) (sym q) ∙ read_idle c f s k j e) (ap (λ z. begin_read z j s) q))
         (λ ne. let o = only_read k j s in
         goes_on (steady_same c f i s (begin_read k j s) (o.station_same i (λ z. ne (sym z))) (λ j. o.reads_same i j (λ z. ne (sym z)))) refl

@@ -24,7 +24,8 @@ use Rattle.machine.proofs.Listing.{order, is_order}
 use Rattle.machine.proofs.Calm.{Calm, calm_opened, calm_step}
 use Rattle.machine.proofs.Named.{Named, named_opened, named_step}
 use Rattle.machine.proofs.AtRest.{idle_at_rest}
-use Rattle.machine.proofs.Acts.{In, unfit}
+use Rattle.machine.proofs.Reasons.{unfit}
+use Rattle.machine.proofs.Acts.{In}
 use Rattle.machine.proofs.Spreading.{same_numbers, all_delivered}
 
 module _ {V : Type 0} (R : Run V) (L : Lawful R.setting) (ok : R.setting.system.allowed R.opening.faulty ≡ true) where
@@ -185,7 +186,7 @@ module _ {V : Type 0} (R : Run V) (L : Lawful R.setting) (ok : R.setting.system.
 
 -- an open that is not declined was handed an allowed faulty set
 faulty_allowed : {V : Type 0} (c : Setting V) (t : Lent) (o : Opening V) → open_decline c t o ≡ None → c.system.allowed o.faulty ≡ true
-faulty_allowed c t o e = not-false _ (unfit c 0 (open_reasons c t o) e 1 _ refl)
+faulty_allowed c t o e = not-false _ (unfit (open_reasons c t o) e 1 _ refl)
 
 pub order_and_rest : {V : Type 0} (c : Setting V) → Lawful c → OrderAndRest c
 order_and_rest {V} c L t o calls e =
