@@ -22,22 +22,45 @@ fn past_next(number: u64, at: u64) -> bool
 }
 
 // Whether a message is past the publication that its receiver works on, so that it has to wait.
-pub(crate) fn is_ahead<V: Copy>(tables: &Tables<V>, figures: &Figures<V>, message: &Message<V>) -> bool
+pub(crate) fn is_ahead<V: Copy>(
+    tables: &Tables<V>,
+    figures: &Figures<V>,
+    message: &Message<V>,
+) -> bool
     requires sound { Sound figures.now tables.now }
     requires named { Names figures.now.stations message.now }
     ensures { result ≡ ahead (view figures.now tables.now) message.now }
 {
     match *message {
-        Message::Init { sender, receiver, number, .. } => past_next(number, tables.copy(figures, receiver, sender).number),
-        Message::Echo { receiver, register, number, .. } | Message::Ready { receiver, register, number, .. } => {
-            past_next(number, tables.copy(figures, receiver, register).number)
+        Message::Init {
+            sender,
+            receiver,
+            number,
+            ..
+        } => past_next(number, tables.copy(figures, receiver, sender).number),
+        Message::Echo {
+            receiver,
+            register,
+            number,
+            ..
         }
+        | Message::Ready {
+            receiver,
+            register,
+            number,
+            ..
+        } => { past_next(number, tables.copy(figures, receiver, register).number) }
         _ => false,
     }
 }
 
 // A message that has left the pool, and is not ahead, reaches its correct receiver.
-pub(crate) fn act<V: Value, S: QuorumSystem>(tables: &mut Tables<V>, figures: &Figures<V>, system: &S, message: Message<V>) -> Answer<V>
+pub(crate) fn act<V: Value, S: QuorumSystem>(
+    tables: &mut Tables<V>,
+    figures: &Figures<V>,
+    system: &S,
+    message: Message<V>,
+) -> Answer<V>
     requires sound { Sound figures.now tables.old }
     requires named { Names figures.now.stations message }
     requires due { ahead (view figures.now tables.old) message ≡ false }
@@ -46,42 +69,96 @@ pub(crate) fn act<V: Value, S: QuorumSystem>(tables: &mut Tables<V>, figures: &F
     ensures performs { Performs figures.now tables.old tables.new result (act (setting (S.families system.now) V.eq) (view figures.now tables.old) message) }
 {
     match message {
-        Message::Init { sender, receiver, number, value } => {
+        Message::Init {
+            sender,
+            receiver,
+            number,
+            value,
+        } => {
             if number > tables.copy(figures, receiver, sender).number {
-                let publication = Publication { register: sender, number, value };
+                let publication = Publication {
+                    register: sender,
+                    number,
+                    value,
+                };
                 on_init(tables, figures, receiver, publication);
             }
             Answer::Done
         }
-        Message::Echo { sender, receiver, register, number, value } => {
+        Message::Echo {
+            sender,
+            receiver,
+            register,
+            number,
+            value,
+        } => {
             if number > tables.copy(figures, receiver, register).number {
-                let publication = Publication { register, number, value };
+                let publication = Publication {
+                    register,
+                    number,
+                    value,
+                };
                 on_echo(tables, figures, system, receiver, sender, publication);
             }
             Answer::Done
         }
-        Message::Ready { sender, receiver, register, number, value } => {
+        Message::Ready {
+            sender,
+            receiver,
+            register,
+            number,
+            value,
+        } => {
             if number > tables.copy(figures, receiver, register).number {
-                let publication = Publication { register, number, value };
+                let publication = Publication {
+                    register,
+                    number,
+                    value,
+                };
                 on_ready(tables, figures, system, receiver, sender, publication);
             }
             Answer::Done
         }
-        Message::WriteDone { sender, receiver, number } => on_write_done(tables, figures, system, receiver, sender, number),
-        Message::Read { sender, receiver, register, read } => {
+        Message::WriteDone {
+            sender,
+            receiver,
+            number,
+        } => on_write_done(tables, figures, system, receiver, sender, number),
+        Message::Read {
+            sender,
+            receiver,
+            register,
+            read,
+        } => {
             on_read(tables, figures, receiver, sender, register, read);
             Answer::Done
         }
-        Message::State { sender, receiver, register, read, number } => {
-            on_state(tables, figures, system, receiver, sender, register, read, number);
+        Message::State {
+            sender,
+            receiver,
+            register,
+            read,
+            number,
+        } => {
+            on_state(
+                tables, figures, system, receiver, sender, register, read, number,
+            );
             Answer::Done
         }
-        Message::CatchUp { sender, receiver, register, number } => {
+        Message::CatchUp {
+            sender,
+            receiver,
+            register,
+            number,
+        } => {
             on_catch_up(tables, figures, receiver, sender, register, number);
             Answer::Done
         }
-        Message::CatchUpDone { sender, receiver, register, number } => {
-            on_catch_up_done(tables, figures, system, receiver, sender, register, number)
-        }
+        Message::CatchUpDone {
+            sender,
+            receiver,
+            register,
+            number,
+        } => { on_catch_up_done(tables, figures, system, receiver, sender, register, number) }
     }
 }

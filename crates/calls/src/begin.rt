@@ -1,18 +1,16 @@
 //! Beginning an operation.
 ghost use Rattle.std.specs.Prelude.{◌≡◌, ◌+◌, ◌*◌, ◌<◌, ◌≤◌};
-ghost use Rattle.machine.specs.Operations.{leaves};
-ghost use Rattle.machine.specs.Calls.{unless, write_decline, begin_write as start_write, read_decline, begin_read as start_read};
+ghost use Rattle.machine.specs.Calls.{begin_write as start_write, write_outcome, begin_read as start_read, read_outcome};
 ghost use Rattle.tables.specs.View.{view, Sound, Becomes};
 ghost use Rattle.calls.specs.Follows.{Follows};
 
+use crate::permit::{permit_read, permit_write};
 use decline::Decline;
 use machine::call::Answer;
 use machine::figures::Figures;
 use machine::message::Message;
 use machine::station::Stage;
 use tables::lent::Tables;
-
-use crate::permit::{permit_read, permit_write};
 
 // Station i's next write is out.
 fn start_write<V: Copy>(tables: &mut Tables<V>, figures: &Figures<V>, i: usize, value: V)
@@ -25,12 +23,15 @@ fn start_write<V: Copy>(tables: &mut Tables<V>, figures: &Figures<V>, i: usize, 
     let number = tables.station(figures, i).written + 1;
     tables.set_written(figures, i, number);
     tables.set_stage(figures, i, Stage::Writing { number, done: 0 });
-    tables.send_each(figures, |k| Message::Init {
-        sender: i,
-        receiver: k,
-        number,
-        value,
-    });
+    tables.send_each(
+        figures,
+        |k| Message::Init {
+            sender: i,
+            receiver: k,
+            number,
+            value,
+        },
+    );
 }
 
 // Station i asks every station how far it is with register j.
@@ -50,18 +51,26 @@ fn start_read<V: Copy>(tables: &mut Tables<V>, figures: &Figures<V>, i: usize, j
         reported: 0,
     };
     tables.set_stage(figures, i, stage);
-    tables.send_each(figures, |k| Message::Read {
-        sender: i,
-        receiver: k,
-        register: j,
-        read,
-    });
+    tables.send_each(
+        figures,
+        |k| Message::Read {
+            sender: i,
+            receiver: k,
+            register: j,
+            read,
+        },
+    );
 }
 
 // A station begins to write a value into its register.
-pub fn begin_write<V: Copy>(tables: &mut Tables<V>, figures: &Figures<V>, station: u64, value: V) -> Result<Answer<V>, Decline>
+pub fn begin_write<V: Copy>(
+    tables: &mut Tables<V>,
+    figures: &Figures<V>,
+    station: u64,
+    value: V,
+) -> Result<Answer<V>, Decline>
     requires { Sound figures.now tables.old }
-    ensures { Follows figures.now tables.old tables.new result (unless (write_decline (view figures.now tables.old) station) (leaves (start_write station value (view figures.now tables.old))) (view figures.now tables.old)) }
+    ensures { Follows figures.now tables.old tables.new result (write_outcome (view figures.now tables.old) station value) }
 {
     let i = permit_write(tables, figures, station)?;
     start_write(tables, figures, i, value);
@@ -69,9 +78,14 @@ pub fn begin_write<V: Copy>(tables: &mut Tables<V>, figures: &Figures<V>, statio
 }
 
 // A station begins to read a register.
-pub fn begin_read<V: Copy>(tables: &mut Tables<V>, figures: &Figures<V>, station: u64, register: u64) -> Result<Answer<V>, Decline>
+pub fn begin_read<V: Copy>(
+    tables: &mut Tables<V>,
+    figures: &Figures<V>,
+    station: u64,
+    register: u64,
+) -> Result<Answer<V>, Decline>
     requires { Sound figures.now tables.old }
-    ensures { Follows figures.now tables.old tables.new result (unless (read_decline (view figures.now tables.old) station register) (leaves (start_read station register (view figures.now tables.old))) (view figures.now tables.old)) }
+    ensures { Follows figures.now tables.old tables.new result (read_outcome (view figures.now tables.old) station register) }
 {
     let (i, j) = permit_read(tables, figures, station, register)?;
     start_read(tables, figures, i, j);

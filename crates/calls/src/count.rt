@@ -3,13 +3,12 @@ ghost use Rattle.std.specs.Prelude.{◌≡◌, length, count_by};
 ghost use Rattle.machine.specs.Calls.{Names, takeable};
 ghost use Rattle.tables.specs.View.{view, Sound};
 
+use crate::act::is_ahead;
+use crate::message::{receiver, sender};
 use machine::figures::Figures;
 use machine::message::Message;
 use station_set::contains;
 use tables::lent::Tables;
-
-use crate::act::is_ahead;
-use crate::message::{receiver, sender};
 
 // Whether a message can be taken between correct stations.
 fn is_takeable<V: Copy>(tables: &Tables<V>, figures: &Figures<V>, message: &Message<V>) -> bool
@@ -17,7 +16,9 @@ fn is_takeable<V: Copy>(tables: &Tables<V>, figures: &Figures<V>, message: &Mess
     requires named { Names figures.now.stations message.now }
     ensures { result ≡ takeable (view figures.now tables.now) message.now }
 {
-    !contains(figures.faulty, sender(message)) && !contains(figures.faulty, receiver(message)) && !is_ahead(tables, figures, message)
+    !contains(figures.faulty, sender(message))
+        && !contains(figures.faulty, receiver(message))
+        && !is_ahead(tables, figures, message)
 }
 
 // How many messages wait, and how many of them can be taken between correct stations.

@@ -33,7 +33,11 @@ pub(crate) fn has_places<V: Copy>(tables: &Tables<V>, figures: &Figures<V>) -> b
 }
 
 // The station, if it may begin a write.
-pub(crate) fn permit_write<V: Copy>(tables: &Tables<V>, figures: &Figures<V>, station: u64) -> Result<usize, Decline>
+pub(crate) fn permit_write<V: Copy>(
+    tables: &Tables<V>,
+    figures: &Figures<V>,
+    station: u64,
+) -> Result<usize, Decline>
     requires { Sound figures.now tables.now }
     ensures { result ≡ permitted (write_decline (view figures.now tables.now) station) station }
 {
@@ -48,7 +52,12 @@ pub(crate) fn permit_write<V: Copy>(tables: &Tables<V>, figures: &Figures<V>, st
 }
 
 // The station and the register, if the station may begin to read it.
-pub(crate) fn permit_read<V: Copy>(tables: &Tables<V>, figures: &Figures<V>, station: u64, register: u64) -> Result<(usize, usize), Decline>
+pub(crate) fn permit_read<V: Copy>(
+    tables: &Tables<V>,
+    figures: &Figures<V>,
+    station: u64,
+    register: u64,
+) -> Result<(usize, usize), Decline>
     requires { Sound figures.now tables.now }
     ensures { result ≡ permitted (read_decline (view figures.now tables.now) station register) (station, register) }
 {
@@ -58,7 +67,10 @@ pub(crate) fn permit_read<V: Copy>(tables: &Tables<V>, figures: &Figures<V>, sta
     let j = register as usize;
     require(!contains(figures.faulty, i), Decline::WrongSide)?;
     require(is_idle(tables.station(figures, i).stage), Decline::NotIdle)?;
-    require(tables.read_number(figures, i, j) < figures.highest, Decline::NumbersUsedUp)?;
+    require(
+        tables.read_number(figures, i, j) < figures.highest,
+        Decline::NumbersUsedUp,
+    )?;
     require(has_places(tables, figures), Decline::PoolFull)?;
     Ok((i, j))
 }

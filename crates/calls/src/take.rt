@@ -1,11 +1,12 @@
 //! Messages that leave the pool: one is taken, or withdrawn.
-ghost use Rattle.std.specs.Prelude.{◌≡◌, slice_get};
-ghost use Rattle.machine.specs.State.{setting, remove};
-ghost use Rattle.machine.specs.Operations.{leaves};
-ghost use Rattle.machine.specs.Calls.{unless, take_decline, receive, withdraw_decline};
+ghost use Rattle.machine.specs.State.{setting};
+ghost use Rattle.machine.specs.Calls.{take_outcome, withdraw_outcome};
 ghost use Rattle.tables.specs.View.{view, Sound};
 ghost use Rattle.calls.specs.Follows.{Follows};
 
+use crate::act::{act, is_ahead};
+use crate::message::{receiver, sender};
+use crate::permit::{has_places, require};
 use decline::Decline;
 use machine::call::Answer;
 use machine::figures::Figures;
@@ -14,18 +15,21 @@ use station_set::contains;
 use tables::lent::Tables;
 use value::Value;
 
-use crate::act::{act, is_ahead};
-use crate::message::{receiver, sender};
-use crate::permit::{has_places, require};
-
 // The message at a place reaches its receiver, which acts on it if it is correct.
-pub fn take<V: Value, S: QuorumSystem>(tables: &mut Tables<V>, figures: &Figures<V>, system: &S, place: u64) -> Result<Answer<V>, Decline>
+pub fn take<V: Value, S: QuorumSystem>(
+    tables: &mut Tables<V>,
+    figures: &Figures<V>,
+    system: &S,
+    place: u64,
+) -> Result<Answer<V>, Decline>
     requires { Sound figures.now tables.old }
-    ensures { Follows figures.now tables.old tables.new result (unless (take_decline (setting (S.families system.now) V.eq) (view figures.now tables.old) place) (receive (setting (S.families system.now) V.eq) place (view figures.now tables.old) (slice_get (view figures.now tables.old).pool place)) (view figures.now tables.old)) }
+    ensures { Follows figures.now tables.old tables.new result (take_outcome (setting (S.families system.now) V.eq) (view figures.now tables.old) place) }
 {
     require(system.size() == figures.stations, Decline::OtherSize)?;
     let place = place as usize;
-    let message = tables.message(figures, place).ok_or(Decline::NoSuchMessage)?;
+    let message = tables
+        .message(figures, place)
+        .ok_or(Decline::NoSuchMessage)?;
     if contains(figures.faulty, receiver(&message)) {
         tables.remove(figures, place);
         return Ok(Answer::Done);
@@ -37,13 +41,22 @@ pub fn take<V: Value, S: QuorumSystem>(tables: &mut Tables<V>, figures: &Figures
 }
 
 // The message at a place leaves, if its sender is faulty.
-pub fn withdraw<V: Copy>(tables: &mut Tables<V>, figures: &Figures<V>, place: u64) -> Result<Answer<V>, Decline>
+pub fn withdraw<V: Copy>(
+    tables: &mut Tables<V>,
+    figures: &Figures<V>,
+    place: u64,
+) -> Result<Answer<V>, Decline>
     requires { Sound figures.now tables.old }
-    ensures { Follows figures.now tables.old tables.new result (unless (withdraw_decline (view figures.now tables.old) (slice_get (view figures.now tables.old).pool place)) (leaves (remove place (view figures.now tables.old))) (view figures.now tables.old)) }
+    ensures { Follows figures.now tables.old tables.new result (withdraw_outcome (view figures.now tables.old) place) }
 {
     let place = place as usize;
-    let message = tables.message(figures, place).ok_or(Decline::NoSuchMessage)?;
-    require(contains(figures.faulty, sender(&message)), Decline::WrongSide)?;
+    let message = tables
+        .message(figures, place)
+        .ok_or(Decline::NoSuchMessage)?;
+    require(
+        contains(figures.faulty, sender(&message)),
+        Decline::WrongSide,
+    )?;
     tables.remove(figures, place);
     Ok(Answer::Done)
 }

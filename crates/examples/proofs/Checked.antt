@@ -1,5 +1,5 @@
 -- One proof of the whole table: a test that is computed over its rows, and what passing it says of a row.
-use Rattle.std.proofs.Common.{◌≡◌, ℕ, Bool, true, false, not, ◌&&◌, eqb, List, [], ◌∷◌, map, get_or, Some, None, Option, refl, ap, ap₂}
+use Rattle.std.proofs.Common.{◌≡◌, ℕ, Bool, true, false, not, ◌&&◌, eqb, List, [], ◌∷◌, map, get_or, Some, None, Option, refl, ap, ap₂, is_none}
 use lib.Count.{ones, ones_in}
 use Rattle.std.specs.Option.{option_map}
 use Rattle.std.specs.List.{AllByRecursion}
@@ -10,7 +10,6 @@ use Rattle.station_set.specs.Sets.{has, set_of, first}
 use Rattle.quorum.specs.Reasons.{decline_of}
 use Rattle.quorum.specs.SiteSets.{share_site, sites_occurring, sites_bar}
 use Rattle.machine.specs.declared.call.Call.TheVariants.{Take, Forge}
-use Rattle.machine.specs.Publishing.{is_none}
 use Rattle.machine.specs.Operations.{fresh_reports}
 use Rattle.machine.specs.Calls.{answers, is_idle}
 use Rattle.examples.specs.Systems.{families_of, bar_of, setting, stations}

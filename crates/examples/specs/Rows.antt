@@ -1,5 +1,5 @@
 -- Rows of the table of examples: what each claims, by the definitions that the contracts of the code use.
-use Rattle.std.specs.Prelude.{◌≡◌, ℕ, Bool, not, List, [], ◌∷◌, map, Some, None, Option, slice_index, Ok, Err, Result}
+use Rattle.std.specs.Prelude.{◌≡◌, ℕ, Bool, not, List, [], ◌∷◌, map, Some, None, Option, slice_index, Ok, Err, Result, is_none}
 use Rattle.decline.specs.declared.Decline.{Decline}
 use Rattle.std.specs.Option.{option_map}
 use Rattle.decline.specs.Numbers.{number_of}
@@ -10,7 +10,6 @@ use Rattle.machine.specs.declared.call.Call.TheVariants.{BeginWrite, Take, Forge
 use Rattle.machine.specs.declared.call.Answer.{Answer}
 use Rattle.machine.specs.declared.call.Answer.TheVariants.{Done, WriteEnded, ReadEnded, Counted}
 use Rattle.machine.specs.State.{Setting, State}
-use Rattle.machine.specs.Publishing.{is_none}
 use Rattle.machine.specs.Operations.{Outcome, fresh_reports, on_write_done}
 use Rattle.machine.specs.Calls.{opened, step, answers, is_idle}
 use Rattle.examples.specs.Systems.{System, families_of, bar_of, setting, stations}

@@ -1,7 +1,7 @@
 -- Where entries stand: each in a place of its own, and a write at one changes what is shown there alone.
-use Rattle.std.proofs.Common.{◌≡◌, ℕ, zero, suc, ◌+◌, ◌-◌, ◌*◌, ◌/◌, ◌%◌, ◌<◌, ◌≤◌, Bool, true, false, cond, ◌&&◌, nat_lt, eqb, List, [], ◌∷◌, length, get_or, set, drop, take, refl, sym, ap, ap₂, ◌∙◌, subst, arith, slice_index_or, slice_set}
+use Rattle.std.proofs.Common.{◌≡◌, ℕ, ◌+◌, ◌-◌, ◌*◌, ◌/◌, ◌%◌, ◌<◌, ◌≤◌, Bool, true, false, cond, ◌&&◌, nat_lt, eqb, List, [], ◌∷◌, length, get_or, set, refl, sym, ap, ap₂, ◌∙◌, arith}
 use Rattle.std.proofs.lemmas.Nat.{mul-add-lt, div-mul-add, mod-mul-add}
-use Rattle.std.proofs.lemmas.Bool.{and_parts, and_from, cond_both, ltb-true, lt-ltb, eqb-true, eqb-false, eq-eqb, both_ways, false≢true}
+use Rattle.std.proofs.lemmas.Bool.{and_parts, and_from, ltb-true, lt-ltb, eqb-true, eq-eqb, both_ways, false≢true}
 use Rattle.std.proofs.lemmas.List.{get_or-set_same, get_or-set_other}
 use Rattle.grid.specs.Lent.{Filled}
 use Rattle.grid.specs.Grid.{row_index, entry, entries, each_below, shown, line, pairs, triples, halves}
@@ -56,8 +56,10 @@ shown-set {X} d h n xs i is x room p q k ks l = at_entry (eqb k i && same ks is)
   where
     here : entry n i is < length xs
     here = omega (arith, room, entry_below n h i is p q)
+
     inside : Bool
     inside = nat_lt k h && each_below n ks
+
     within : (b : Bool) → inside ≡ b → ((eqb k i && same ks is) ≡ false)
         → cond b (get_or (set xs (entry n i is) x) (entry n k ks) d) d ≡ cond b (get_or xs (entry n k ks) d) d
     within false e o = refl
@@ -65,6 +67,7 @@ shown-set {X} d h n xs i is x room p q k ks l = at_entry (eqb k i && same ks is)
         let r = and_parts (nat_lt k h) (each_below n ks) e in
         get_or-set_other xs (entry n i is) (entry n k ks) x d
         (λ z. let s = entry_same n k i ks is l r.1 q z in both_ways _ o (and_from (eqb k i) (same ks is) (eq-eqb k i s.0) s.1))
+
     at_entry : (b : Bool) → (eqb k i && same ks is) ≡ b → shown d h n (set xs (entry n i is) x) k ks ≡ cond b x (shown d h n xs k ks)
     at_entry true e =
         let r = and_parts (eqb k i) (same ks is) e in
@@ -153,18 +156,23 @@ halves-fill {X} d n xs ys half i j filled f p q g a b k = within (nat_lt g 2 && 
   where
     first : ℕ
     first = row_index n (row_index n half i) j * n
+
     at : ℕ
     at = row_index n (row_index n (row_index n g a) b) k
+
     here : Bool
     here = eqb g half && (eqb a i && eqb b j)
+
     d_or_d : (t : Bool) → d ≡ cond t d d
     d_or_d true = refl
     d_or_d false = refl
+
     columns : each_below n (a ∷ b ∷ k ∷ []) ≡ true → (a < n) × (b < n) × (k < n)
     columns e =
         let r = and_parts (nat_lt a n) (nat_lt b n && (nat_lt k n && true)) e in
         let s = and_parts (nat_lt b n) (nat_lt k n && true) r.1 in
         (ltb-true a n r.0, ltb-true b n s.0, ltb-true k n (and_parts (nat_lt k n) true s.1).0)
+
     in_row : (t : Bool) → here ≡ t → (a < n) × (b < n) × (k < n) → get_or ys at d ≡ cond t d (get_or xs at d)
     in_row true e l =
         let r = and_parts (eqb g half) (eqb a i && eqb b j) e in
@@ -176,13 +184,14 @@ halves-fill {X} d n xs ys half i j filled f p q g a b k = within (nat_lt g 2 && 
     in_row false e l =
         filled.outside at d
         (λ above below.
-            let m = at - first in
-            let place : at ≡ row_index n (row_index n (row_index n half i) j) m = omega (arith, above) in
-            let same_row = row_same n (row_index n (row_index n g a) b) k (row_index n (row_index n half i) j) m l.2 (omega (arith, above, below)) place in
-            let same_half = row_same n (row_index n g a) b (row_index n half i) j l.1 q same_row.0 in
-            let same_first = row_same n g a half i l.0 p same_half.0 in
-            both_ways here e
-            (and_from (eqb g half) _ (eq-eqb g half same_first.0) (and_from (eqb a i) (eqb b j) (eq-eqb a i same_first.1) (eq-eqb b j same_half.1))))
+        let m = at - first in
+        let place : at ≡ row_index n (row_index n (row_index n half i) j) m = omega (arith, above) in
+        let same_row = row_same n (row_index n (row_index n g a) b) k (row_index n (row_index n half i) j) m l.2 (omega (arith, above, below)) place in
+        let same_half = row_same n (row_index n g a) b (row_index n half i) j l.1 q same_row.0 in
+        let same_first = row_same n g a half i l.0 p same_half.0 in
+        both_ways here e
+        (and_from (eqb g half) _ (eq-eqb g half same_first.0) (and_from (eqb a i) (eqb b j) (eq-eqb a i same_first.1) (eq-eqb b j same_half.1))))
+
     within : (t : Bool) → (nat_lt g 2 && each_below n (a ∷ b ∷ k ∷ [])) ≡ t → cond t (get_or ys at d) d ≡ cond here d (cond t (get_or xs at d) d)
     within false e = d_or_d here
     within true e = in_row here refl (columns (and_parts (nat_lt g 2) (each_below n (a ∷ b ∷ k ∷ [])) e).1)

@@ -14,7 +14,7 @@ past_more n m a b l p =
       slice = p.slice;
       length = p.length;
       rest =
-        ap (λ k. drop k b.now) e ∙ sym (drop-drop (m - n) n b.now) ∙ ap (drop (m - n)) p.rest ∙ drop-drop (m - n) n a.now ∙ ap (λ k. drop k a.now) (sym e);
+          ap (λ k. drop k b.now) e ∙ sym (drop-drop (m - n) n b.now) ∙ ap (drop (m - n)) p.rest ∙ drop-drop (m - n) n a.now ∙ ap (λ k. drop k a.now) (sym e);
     }
 
 pub past_then : {X : Type 0} (n m : ℕ) (a b c : MutBor (List X)) → n ≤ m → SamePast n a b → SamePast m b c → SamePast m a c
@@ -35,7 +35,7 @@ past_fill m a b from count x slice filled l =
       slice = slice;
       length = filled.length;
       rest =
-        ext_get_or x (drop m b.now) (drop m a.now) (length-drop m b.now ∙ ap (λ k. k - m) filled.length ∙ sym (length-drop m a.now))
-        (λ i within.
-            get_or-drop m b.now i x ∙ filled.outside (m + i) x (λ above below. absurd (omega (arith, below, l))) ∙ sym (get_or-drop m a.now i x));
+          ext_get_or x (drop m b.now) (drop m a.now) (length-drop m b.now ∙ ap (λ k. k - m) filled.length ∙ sym (length-drop m a.now))
+          (λ i within.
+          get_or-drop m b.now i x ∙ filled.outside (m + i) x (λ above below. absurd (omega (arith, below, l))) ∙ sym (get_or-drop m a.now i x));
     }

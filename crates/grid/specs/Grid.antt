@@ -1,5 +1,5 @@
 -- What a flat slice shows as a table of stations: row after row, with one entry for every index past the stations.
-use Rattle.std.specs.Prelude.{◌≡◌, ℕ, ◌+◌, ◌*◌, Bool, true, cond, ◌&&◌, List, [], ◌∷◌, nat_lt, slice_index_or}
+use Rattle.std.specs.Prelude.{ℕ, ◌+◌, ◌*◌, Bool, true, cond, ◌&&◌, List, [], ◌∷◌, nat_lt, slice_index_or}
 
 -- column j of row i, where a row has n columns
 abbrev pub row_index : ℕ → ℕ → ℕ → ℕ

@@ -1,6 +1,6 @@
 -- Each call is a chain of small acts, each under its guard. Stations outside a given set may do anything:
 -- all that they do is one act, which leaves the tables of the others alone.
-use Rattle.std.proofs.Common.{◌≡◌, ℕ, suc, ◌<◌, ◌≤◌, max, Bool, true, false, cond, not, ◌&&◌, eqb, ltb, leb, ◌⊎◌, List, [], ◌∷◌, Some, None, Option, sym, refl, ap, ◌∙◌, inl, inr, ⊎_elim, arith, Ok, Err, Result}
+use Rattle.std.proofs.Common.{◌≡◌, ℕ, suc, ◌<◌, ◌≤◌, max, Bool, true, false, cond, not, ◌&&◌, eqb, ltb, leb, ◌⊎◌, List, [], ◌∷◌, Some, None, is_none, Option, sym, refl, ap, ◌∙◌, inl, inr, ⊎_elim, arith, Ok, Err, Result}
 use Rattle.std.specs.List.{remove as removed, All, slice_get}
 use Rattle.std.proofs.lemmas.Bool.{cond_both, and_parts, and_cases, not-true, not-false, leb-true, leb-false, ltb-false, eqb-true, cases_Bool, both_ways}
 use Rattle.std.proofs.lemmas.Bool.Decides.{nat_tests}
@@ -18,7 +18,7 @@ use Rattle.machine.specs.declared.call.Answer.{Answer}
 use Rattle.machine.specs.declared.call.Answer.TheVariants.{Done, WriteEnded, ReadEnded, Counted}
 use Rattle.machine.specs.State.{Setting, Cell, State, number, is_faulty, put_triple, with_cell, with_stage, with_held, remove, send}
 use Rattle.machine.specs.Operations.{Outcome, leaves, fresh_reports, start_catching, freshness_at, write_done_at, keep_report, state_at, catch_up_done_at}
-use Rattle.machine.specs.Publishing.{mark_readied, vote_echo, vote_ready, echo_voters, ready_voters, send_echo, send_ready, take_value, on_init, is_none, count_echoes, on_echo, join_readies, count_readies, on_ready}
+use Rattle.machine.specs.Publishing.{mark_readied, vote_echo, vote_ready, echo_voters, ready_voters, send_echo, send_ready, take_value, on_init, count_echoes, on_echo, join_readies, count_readies, on_ready}
 use Rattle.machine.specs.Calls.{sender, receiver, ahead, unless_old, act, unless, is_idle, write_reasons, write_decline, begin_write, read_reasons, read_decline, begin_read, receive_reasons, receive_decline, take_decline, receive, forged, forge_reasons, forge_decline, join_forged, withdraw_decline, step}
 use Rattle.machine.proofs.Reasons.{unfit}
 use Rattle.machine.proofs.Tables.{put_pair_same, is_absent, all_one}

@@ -1,12 +1,11 @@
 -- Tables with one entry overwritten, and lists of messages: what holds of all entries or messages lasts.
-use Rattle.std.proofs.Common.{◌≡◌, ℕ, zero, suc, ◌+◌, ◌<◌, ◌≤◌, Bool, true, false, cond, ◌&&◌, eqb, ◌⊎◌, List, [], ◌∷◌, ◌++◌, map, take, drop, Some, None, filter, get_or, Option, sym, refl, ap, subst, subst₂, inl, inr, ⊎_elim, arith}
+use Rattle.std.proofs.Common.{◌≡◌, ℕ, zero, suc, ◌+◌, ◌<◌, ◌≤◌, Bool, true, false, cond, ◌&&◌, eqb, ◌⊎◌, List, [], ◌∷◌, ◌++◌, map, take, drop, Some, None, filter, is_none, get_or, Option, sym, refl, ap, subst, subst₂, inl, inr, ⊎_elim, arith}
 use Rattle.std.specs.List.{range_with_len, remove, All, slice_get}
 use Rattle.std.proofs.lemmas.Bool.{cond_both, and_parts, and_from, both_ways, eqb-true, eqb-false, eq-eqb, cases_lt}
 use Rattle.std.proofs.lemmas.Bool.Decides.{nat_tests}
 use Rattle.std.proofs.lemmas.List.Elements.{All-nil, All-cons, All-append, All-take, All-drop, All-map}
 use Rattle.std.proofs.lemmas.Option.{slice_get_within, get_or_from_slice_get}
 use Rattle.machine.specs.State.{put, put_pair, put_triple, to_all}
-use Rattle.machine.specs.Publishing.{is_none}
 
 -- a fact of every entry lasts when one is overwritten by what has it
 pub put_all : {A : Type 0} (P : ℕ → A → Type 0) (k : ℕ) (x : A) (f : ℕ → A) → ((a : ℕ) → P a (f a)) → P k x → (a : ℕ) → P a (put k x f a)

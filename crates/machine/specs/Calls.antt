@@ -1,5 +1,5 @@
 -- The calls on a bench: when each is declined, what it does otherwise, and a run of calls.
-use Rattle.std.specs.Prelude.{◌≡◌, ℕ, suc, ◌+◌, ◌*◌, ◌<◌, Bool, true, false, cond, not, ◌&&◌, ◌||◌, List, [], ◌∷◌, length, Some, None, count_by, Option, ◌==◌, nat_le, nat_lt, Ok, Err, Result}
+use Rattle.std.specs.Prelude.{◌≡◌, ℕ, suc, ◌+◌, ◌*◌, ◌<◌, Bool, true, false, cond, not, ◌&&◌, ◌||◌, List, [], ◌∷◌, length, Some, None, is_none, count_by, Option, ◌==◌, nat_le, nat_lt, Ok, Err, Result}
 use Rattle.std.specs.List.{slice_get}
 use Rattle.decline.specs.declared.Decline.{Decline}
 use Rattle.decline.specs.declared.Decline.TheVariants.{Closed, AlreadyOpen, OutsideLimits, NotAllowed, OtherSize, NoSuchStation, WrongSide, BadForgery, NotIdle, NumbersUsedUp, NoSuchMessage, Ahead, PoolFull}
@@ -14,7 +14,7 @@ use Rattle.machine.specs.declared.call.Call.TheVariants.{Open, BeginWrite, Begin
 use Rattle.machine.specs.declared.call.Answer.{Answer}
 use Rattle.machine.specs.declared.call.Answer.TheVariants.{Done, Counted}
 use Rattle.machine.specs.State.{Setting, State, number, is_faulty, fresh_cell, with_stage, with_written, with_reads, remove, send, to_all}
-use Rattle.machine.specs.Publishing.{on_init, on_echo, on_ready, is_none}
+use Rattle.machine.specs.Publishing.{on_init, on_echo, on_ready}
 use Rattle.machine.specs.Operations.{Outcome, leaves, on_write_done, on_read, on_state, on_catch_up, on_catch_up_done}
 
 -- Messages
@@ -120,6 +120,9 @@ begin_write i v s =
     let x = suc (s.station i).written in
     send (to_all s.figures.stations (λ k. Init i k x v)) (with_stage i (Writing x 0) (with_written i x s))
 
+abbrev pub write_outcome : {V : Type 0} → State V → ℕ → V → Outcome V
+write_outcome s i v = unless (write_decline s i) (leaves (begin_write i v s)) s
+
 abbrev pub read_reasons : {V : Type 0} → State V → ℕ → ℕ → List (Bool × Decline)
 read_reasons s i j =
     (not (nat_lt i s.figures.stations && nat_lt j s.figures.stations), NoSuchStation)
@@ -137,6 +140,9 @@ begin_read i j s =
     let r = suc (s.reads i j) in
     send (to_all s.figures.stations (λ k. Read i k j r)) (with_stage i (Querying j r 0) (with_reads i j r s))
 
+abbrev pub read_outcome : {V : Type 0} → State V → ℕ → ℕ → Outcome V
+read_outcome s i j = unless (read_decline s i j) (leaves (begin_read i j s)) s
+
 -- Take: a faulty receiver only removes the message
 
 abbrev pub receive_reasons : {V : Type 0} → State V → Message V → List (Bool × Decline)
@@ -152,6 +158,9 @@ take_decline c s place = cond (c.system.stations == s.figures.stations) (receive
 abbrev pub receive : {V : Type 0} → Setting V → ℕ → State V → Option (Message V) → Outcome V
 receive c place s None = leaves s
 receive c place s (Some m) = cond (is_faulty s (receiver m)) (leaves (remove place s)) (act c (remove place s) m)
+
+abbrev pub take_outcome : {V : Type 0} → Setting V → State V → ℕ → Outcome V
+take_outcome c s place = unless (take_decline c s place) (receive c place s (slice_get s.pool place)) s
 
 -- Forge: one message from a faulty sender, with the fields that its kind uses
 
@@ -237,11 +246,18 @@ abbrev pub join_forged : {V : Type 0} → Option (Message V) → State V → Sta
 join_forged None s = s
 join_forged (Some m) s = send (m ∷ []) s
 
+abbrev pub forge_outcome : {V : Type 0} → State V → Forgery V → Outcome V
+forge_outcome s f =
+    unless (forge_decline s f (forged s.figures.highest f)) (leaves (join_forged (forged s.figures.highest f) s)) s
+
 -- Withdraw: a message whose sender is faulty leaves
 
 abbrev pub withdraw_decline : {V : Type 0} → State V → Option (Message V) → Option Decline
 withdraw_decline s None = Some NoSuchMessage
 withdraw_decline s (Some m) = cond (is_faulty s (sender m)) None (Some WrongSide)
+
+abbrev pub withdraw_outcome : {V : Type 0} → State V → ℕ → Outcome V
+withdraw_outcome s place = unless (withdraw_decline s (slice_get s.pool place)) (leaves (remove place s)) s
 
 -- Count
 
@@ -262,12 +278,11 @@ count s = Ok (Counted (length s.pool) (count_by (takeable s) s.pool))
 
 abbrev pub step : {V : Type 0} → Setting V → State V → Call V → Outcome V
 step c s (Open o) = record { state = s; answer = Err AlreadyOpen }
-step c s (BeginWrite i v) = unless (write_decline s i) (leaves (begin_write i v s)) s
-step c s (BeginRead i j) = unless (read_decline s i j) (leaves (begin_read i j s)) s
-step c s (Take place) = unless (take_decline c s place) (receive c place s (slice_get s.pool place)) s
-step c s (Forge f) =
-    unless (forge_decline s f (forged s.figures.highest f)) (leaves (join_forged (forged s.figures.highest f) s)) s
-step c s (Withdraw place) = unless (withdraw_decline s (slice_get s.pool place)) (leaves (remove place s)) s
+step c s (BeginWrite i v) = write_outcome s i v
+step c s (BeginRead i j) = read_outcome s i j
+step c s (Take place) = take_outcome c s place
+step c s (Forge f) = forge_outcome s f
+step c s (Withdraw place) = withdraw_outcome s place
 step c s Count = record { state = s; answer = count s }
 
 -- a run of calls, one after the other

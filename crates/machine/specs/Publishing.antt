@@ -1,5 +1,5 @@
 -- How a correct station acts on INIT, ECHO and READY: Bracha's broadcast of one publication after the other.
-use Rattle.std.specs.Prelude.{ℕ, suc, Bool, true, false, cond, not, ◌&&◌, List, ◌∷◌, map, Some, None, filter, Option, ◌==◌, nat_eq}
+use Rattle.std.specs.Prelude.{ℕ, suc, Bool, true, false, cond, not, ◌&&◌, List, ◌∷◌, map, Some, None, filter, is_none, Option, ◌==◌, nat_eq}
 use Rattle.std.specs.List.{range_with_len}
 use Rattle.station_set.specs.Sets.{set_of}
 use Rattle.value.specs.Holders.{keeps}
@@ -68,10 +68,6 @@ take_value i j v s =
 
 abbrev pub on_init : {V : Type 0} → ℕ → ℕ → V → State V → State V
 on_init i j v s = cond (s.cell i j).copy.echoed s (send_echo i j v s)
-
-abbrev pub is_none : {A : Type 0} → Option A → Bool
-is_none None = true
-is_none (Some a) = false
 
 -- ECHO votes for v that are a quorum
 abbrev pub count_echoes : {V : Type 0} → Setting V → ℕ → ℕ → V → State V → State V

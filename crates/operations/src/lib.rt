@@ -35,17 +35,26 @@ pub fn start_catching<V: Copy>(tables: &mut Tables<V>, figures: &Figures<V>, i: 
         done: 0,
     };
     tables.set_stage(figures, i, stage);
-    tables.send_each(figures, |k| Message::CatchUp {
-        sender: i,
-        receiver: k,
-        register: j,
-        number: copy.number,
-    });
+    tables.send_each(
+        figures,
+        |k| Message::CatchUp {
+            sender: i,
+            receiver: k,
+            register: j,
+            number: copy.number,
+        },
+    );
 }
 
 // If station i is querying register j, and the stations whose report is at most its own number are a quorum, it goes on
 // to catching.
-pub fn test_freshness<V: Value, S: QuorumSystem>(tables: &mut Tables<V>, figures: &Figures<V>, system: &S, i: usize, j: usize)
+pub fn test_freshness<V: Value, S: QuorumSystem>(
+    tables: &mut Tables<V>,
+    figures: &Figures<V>,
+    system: &S,
+    i: usize,
+    j: usize,
+)
     requires sound { Sound figures.now tables.old }
     requires station { i < figures.now.stations }
     requires register { j < figures.now.stations }
@@ -53,7 +62,12 @@ pub fn test_freshness<V: Value, S: QuorumSystem>(tables: &mut Tables<V>, figures
     ensures shows { Becomes figures.now tables.old tables.new (test_freshness (setting (S.families system.now) V.eq) i j (view figures.now tables.old)) }
     ensures sent { tables.new.pool.waiting ≤ tables.old.pool.waiting + figures.now.stations }
 {
-    if let Stage::Querying { register, read: _, reported } = tables.station(figures, i).stage {
+    if let Stage::Querying {
+        register,
+        read: _,
+        reported,
+    } = tables.station(figures, i).stage
+    {
         let number = tables.copy(figures, i, j).number;
         if register == j && system.is_quorum(tables.fresh_reports(figures, i, reported, number)) {
             start_catching(tables, figures, i, j);
@@ -62,7 +76,14 @@ pub fn test_freshness<V: Value, S: QuorumSystem>(tables: &mut Tables<V>, figures
 }
 
 // Station i is done with its write once the stations that took it are a quorum.
-fn end_write<V: Value, S: QuorumSystem>(tables: &mut Tables<V>, figures: &Figures<V>, system: &S, i: usize, number: u64, done: u16) -> Answer<V>
+fn end_write<V: Value, S: QuorumSystem>(
+    tables: &mut Tables<V>,
+    figures: &Figures<V>,
+    system: &S,
+    i: usize,
+    number: u64,
+    done: u16,
+) -> Answer<V>
     requires sound { Sound figures.now tables.old }
     requires station { i < figures.now.stations }
     ensures performs { Performs figures.now tables.old tables.new result (end_write (setting (S.families system.now) V.eq) i number done (view figures.now tables.old)) }
@@ -78,20 +99,41 @@ fn end_write<V: Value, S: QuorumSystem>(tables: &mut Tables<V>, figures: &Figure
 }
 
 // WRITE_DONE from station k: it has taken station i's write of this number.
-pub fn on_write_done<V: Value, S: QuorumSystem>(tables: &mut Tables<V>, figures: &Figures<V>, system: &S, i: usize, k: usize, number: u64) -> Answer<V>
+pub fn on_write_done<V: Value, S: QuorumSystem>(
+    tables: &mut Tables<V>,
+    figures: &Figures<V>,
+    system: &S,
+    i: usize,
+    k: usize,
+    number: u64,
+) -> Answer<V>
     requires sound { Sound figures.now tables.old }
     requires station { i < figures.now.stations }
     ensures performs { Performs figures.now tables.old tables.new result (on_write_done (setting (S.families system.now) V.eq) i k number (view figures.now tables.old)) }
     ensures sent { tables.new.pool.waiting ≡ tables.old.pool.waiting }
 {
     match tables.station(figures, i).stage {
-        Stage::Writing { number: own, done } if own == number => end_write(tables, figures, system, i, number, insert(done, k)),
+        Stage::Writing { number: own, done } if own == number => end_write(
+            tables,
+            figures,
+            system,
+            i,
+            number,
+            insert(done, k),
+        ),
         _ => Answer::Done,
     }
 }
 
 // READ from station k: station i tells how far it is.
-pub fn on_read<V: Copy>(tables: &mut Tables<V>, figures: &Figures<V>, i: usize, k: usize, j: usize, read: u64)
+pub fn on_read<V: Copy>(
+    tables: &mut Tables<V>,
+    figures: &Figures<V>,
+    i: usize,
+    k: usize,
+    j: usize,
+    read: u64,
+)
     requires sound { Sound figures.now tables.old }
     requires station { i < figures.now.stations }
     requires asking { k < figures.now.stations }
@@ -112,7 +154,16 @@ pub fn on_read<V: Copy>(tables: &mut Tables<V>, figures: &Figures<V>, i: usize, 
 }
 
 // Station i keeps station k's report, and k is among those that reported.
-fn keep_report<V: Copy>(tables: &mut Tables<V>, figures: &Figures<V>, i: usize, k: usize, j: usize, read: u64, number: u64, reported: u16)
+fn keep_report<V: Copy>(
+    tables: &mut Tables<V>,
+    figures: &Figures<V>,
+    i: usize,
+    k: usize,
+    j: usize,
+    read: u64,
+    number: u64,
+    reported: u16,
+)
     requires sound { Sound figures.now tables.old }
     requires station { i < figures.now.stations }
     requires reporting { k < figures.now.stations }
@@ -129,7 +180,16 @@ fn keep_report<V: Copy>(tables: &mut Tables<V>, figures: &Figures<V>, i: usize, 
 }
 
 // STATE from station k: its first report to this reading is kept, and the freshness test follows.
-pub fn on_state<V: Value, S: QuorumSystem>(tables: &mut Tables<V>, figures: &Figures<V>, system: &S, i: usize, k: usize, j: usize, read: u64, number: u64)
+pub fn on_state<V: Value, S: QuorumSystem>(
+    tables: &mut Tables<V>,
+    figures: &Figures<V>,
+    system: &S,
+    i: usize,
+    k: usize,
+    j: usize,
+    read: u64,
+    number: u64,
+)
     requires sound { Sound figures.now tables.old }
     requires station { i < figures.now.stations }
     requires reporting { k < figures.now.stations }
@@ -138,7 +198,12 @@ pub fn on_state<V: Value, S: QuorumSystem>(tables: &mut Tables<V>, figures: &Fig
     ensures shows { Becomes figures.now tables.old tables.new (on_state (setting (S.families system.now) V.eq) i k j read number (view figures.now tables.old)) }
     ensures sent { tables.new.pool.waiting ≤ tables.old.pool.waiting + figures.now.stations }
 {
-    if let Stage::Querying { register, read: own, reported } = tables.station(figures, i).stage {
+    if let Stage::Querying {
+        register,
+        read: own,
+        reported,
+    } = tables.station(figures, i).stage
+    {
         if register == j && own == read && !contains(reported, k) {
             keep_report(tables, figures, i, k, j, read, number, reported);
             test_freshness(tables, figures, system, i, j);
@@ -147,7 +212,14 @@ pub fn on_state<V: Value, S: QuorumSystem>(tables: &mut Tables<V>, figures: &Fig
 }
 
 // CATCH_UP from station k: station i answers if it is as far, and else holds the larger of the two numbers.
-pub fn on_catch_up<V: Copy>(tables: &mut Tables<V>, figures: &Figures<V>, i: usize, k: usize, j: usize, number: u64)
+pub fn on_catch_up<V: Copy>(
+    tables: &mut Tables<V>,
+    figures: &Figures<V>,
+    i: usize,
+    k: usize,
+    j: usize,
+    number: u64,
+)
     requires sound { Sound figures.now tables.old }
     requires station { i < figures.now.stations }
     requires asking { k < figures.now.stations }
@@ -171,7 +243,16 @@ pub fn on_catch_up<V: Copy>(tables: &mut Tables<V>, figures: &Figures<V>, i: usi
 }
 
 // Station i is done with its reading once the stations that are as far as what it noted are a quorum.
-fn end_read<V: Value, S: QuorumSystem>(tables: &mut Tables<V>, figures: &Figures<V>, system: &S, i: usize, j: usize, number: u64, value: V, done: u16) -> Answer<V>
+fn end_read<V: Value, S: QuorumSystem>(
+    tables: &mut Tables<V>,
+    figures: &Figures<V>,
+    system: &S,
+    i: usize,
+    j: usize,
+    number: u64,
+    value: V,
+    done: u16,
+) -> Answer<V>
     requires sound { Sound figures.now tables.old }
     requires station { i < figures.now.stations }
     ensures performs { Performs figures.now tables.old tables.new result (end_read (setting (S.families system.now) V.eq) i j number value done (view figures.now tables.old)) }
@@ -198,15 +279,37 @@ fn end_read<V: Value, S: QuorumSystem>(tables: &mut Tables<V>, figures: &Figures
 }
 
 // CATCH_UP_DONE from station k: it is as far with register j as this number.
-pub fn on_catch_up_done<V: Value, S: QuorumSystem>(tables: &mut Tables<V>, figures: &Figures<V>, system: &S, i: usize, k: usize, j: usize, number: u64) -> Answer<V>
+pub fn on_catch_up_done<V: Value, S: QuorumSystem>(
+    tables: &mut Tables<V>,
+    figures: &Figures<V>,
+    system: &S,
+    i: usize,
+    k: usize,
+    j: usize,
+    number: u64,
+) -> Answer<V>
     requires sound { Sound figures.now tables.old }
     requires station { i < figures.now.stations }
     ensures performs { Performs figures.now tables.old tables.new result (on_catch_up_done (setting (S.families system.now) V.eq) i k j number (view figures.now tables.old)) }
     ensures sent { tables.new.pool.waiting ≡ tables.old.pool.waiting }
 {
     match tables.station(figures, i).stage {
-        Stage::Catching { register, number: noted, value, done } if register == j && noted == number => {
-            end_read(tables, figures, system, i, j, number, value, insert(done, k))
+        Stage::Catching {
+            register,
+            number: noted,
+            value,
+            done,
+        } if register == j && noted == number => {
+            end_read(
+                tables,
+                figures,
+                system,
+                i,
+                j,
+                number,
+                value,
+                insert(done, k),
+            )
         }
         _ => Answer::Done,
     }

@@ -1,5 +1,5 @@
 -- Stations that await a number are answered one after the other, and at the end all of them are.
-use Rattle.std.proofs.Common.{◌≡◌, ℕ, suc, ◌+◌, ◌<◌, ◌≤◌, Bool, true, false, cond, ◌&&◌, eqb, nat_eq, nat_lt, List, [], ◌∷◌, ◌++◌, map, filter, refl, sym, ap, ap₂, ◌∙◌, arith, append-nil, append_assoc}
+use Rattle.std.proofs.Common.{◌≡◌, ℕ, suc, ◌+◌, ◌≤◌, Bool, true, false, cond, ◌&&◌, eqb, nat_eq, nat_lt, List, [], ◌∷◌, ◌++◌, map, filter, refl, sym, ap, ap₂, ◌∙◌, arith, append-nil, append_assoc}
 use Rattle.std.specs.List.{range_with_len}
 use Rattle.std.proofs.Math.Path.{fun_ext}
 use Rattle.std.proofs.lemmas.Bool.{ltb-true}
@@ -46,8 +46,10 @@ module _ (i j x : ℕ) where
     where
       so_far : State V
       so_far = answer_first m i j x s
+
       first : List (Message V)
       first = held_answers m (λ k. s.held i k j) i j x
+
       turn : (b : Bool) → eqb (s.held i m j) x ≡ b
           → cond b (send (CatchUpDone i m j x ∷ []) (with_held (put_triple i m j 0 (release_first m i j x s.held)) so_far)) so_far ≡ answer_first (m + 1) i j x s
       turn true e =

@@ -1,5 +1,5 @@
 -- What leaves a station's number of a register as it was.
-use Rattle.std.proofs.Common.{◌≡◌, ℕ, Bool, ap, refl, not, ◌&&◌}
+use Rattle.std.proofs.Common.{◌≡◌, ℕ, ap, refl, not, ◌&&◌}
 use Rattle.std.proofs.lemmas.Bool.{cond_both}
 use Rattle.machine.specs.State.{Setting, Cell, State, number, with_cell}
 use Rattle.machine.specs.Publishing.{mark_readied, ready_voters, send_ready, join_readies}

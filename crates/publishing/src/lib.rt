@@ -25,7 +25,12 @@ pub struct Publication<V> {
 }
 
 // Station i sends ECHO to all.
-fn send_echo<V: Copy>(tables: &mut Tables<V>, figures: &Figures<V>, i: usize, publication: Publication<V>)
+fn send_echo<V: Copy>(
+    tables: &mut Tables<V>,
+    figures: &Figures<V>,
+    i: usize,
+    publication: Publication<V>,
+)
     requires sound { Sound figures.now tables.old }
     requires station { i < figures.now.stations }
     requires register { publication.register < figures.now.stations }
@@ -34,20 +39,40 @@ fn send_echo<V: Copy>(tables: &mut Tables<V>, figures: &Figures<V>, i: usize, pu
     ensures shows { Becomes figures.now tables.old tables.new (send_echo i publication.register publication.value (view figures.now tables.old)) }
     ensures sent { tables.new.pool.waiting ≡ tables.old.pool.waiting + figures.now.stations }
 {
-    let Publication { register, number, value } = publication;
-    let copy = tables.copy(figures, i, register);
-    tables.set_copy(figures, i, register, RegisterCopy { echoed: true, ..copy });
-    tables.send_each(figures, |k| Message::Echo {
-        sender: i,
-        receiver: k,
+    let Publication {
         register,
         number,
         value,
-    });
+    } = publication;
+    let copy = tables.copy(figures, i, register);
+    tables.set_copy(
+        figures,
+        i,
+        register,
+        RegisterCopy {
+            echoed: true,
+            ..copy
+        },
+    );
+    tables.send_each(
+        figures,
+        |k| Message::Echo {
+            sender: i,
+            receiver: k,
+            register,
+            number,
+            value,
+        },
+    );
 }
 
 // Station i sends READY to all.
-fn send_ready<V: Copy>(tables: &mut Tables<V>, figures: &Figures<V>, i: usize, publication: Publication<V>)
+fn send_ready<V: Copy>(
+    tables: &mut Tables<V>,
+    figures: &Figures<V>,
+    i: usize,
+    publication: Publication<V>,
+)
     requires sound { Sound figures.now tables.old }
     requires station { i < figures.now.stations }
     requires register { publication.register < figures.now.stations }
@@ -56,20 +81,40 @@ fn send_ready<V: Copy>(tables: &mut Tables<V>, figures: &Figures<V>, i: usize, p
     ensures shows { Becomes figures.now tables.old tables.new (send_ready i publication.register publication.value (view figures.now tables.old)) }
     ensures sent { tables.new.pool.waiting ≡ tables.old.pool.waiting + figures.now.stations }
 {
-    let Publication { register, number, value } = publication;
-    let copy = tables.copy(figures, i, register);
-    tables.set_copy(figures, i, register, RegisterCopy { readied: true, ..copy });
-    tables.send_each(figures, |k| Message::Ready {
-        sender: i,
-        receiver: k,
+    let Publication {
         register,
         number,
         value,
-    });
+    } = publication;
+    let copy = tables.copy(figures, i, register);
+    tables.set_copy(
+        figures,
+        i,
+        register,
+        RegisterCopy {
+            readied: true,
+            ..copy
+        },
+    );
+    tables.send_each(
+        figures,
+        |k| Message::Ready {
+            sender: i,
+            receiver: k,
+            register,
+            number,
+            value,
+        },
+    );
 }
 
 // INIT: station i echoes the first one that it is sent.
-pub fn on_init<V: Copy>(tables: &mut Tables<V>, figures: &Figures<V>, i: usize, publication: Publication<V>)
+pub fn on_init<V: Copy>(
+    tables: &mut Tables<V>,
+    figures: &Figures<V>,
+    i: usize,
+    publication: Publication<V>,
+)
     requires sound { Sound figures.now tables.old }
     requires station { i < figures.now.stations }
     requires register { publication.register < figures.now.stations }
@@ -84,7 +129,13 @@ pub fn on_init<V: Copy>(tables: &mut Tables<V>, figures: &Figures<V>, i: usize, 
 }
 
 // Station i is ready once the stations whose ECHO vote is this value are a quorum.
-fn count_echoes<V: Value, S: QuorumSystem>(tables: &mut Tables<V>, figures: &Figures<V>, system: &S, i: usize, publication: Publication<V>)
+fn count_echoes<V: Value, S: QuorumSystem>(
+    tables: &mut Tables<V>,
+    figures: &Figures<V>,
+    system: &S,
+    i: usize,
+    publication: Publication<V>,
+)
     requires sound { Sound figures.now tables.old }
     requires station { i < figures.now.stations }
     requires register { publication.register < figures.now.stations }
@@ -93,14 +144,27 @@ fn count_echoes<V: Value, S: QuorumSystem>(tables: &mut Tables<V>, figures: &Fig
     ensures shows { Becomes figures.now tables.old tables.new (count_echoes (setting (S.families system.now) V.eq) i publication.register publication.value (view figures.now tables.old)) }
     ensures sent { tables.new.pool.waiting ≤ tables.old.pool.waiting + figures.now.stations }
 {
-    let Publication { register, value, .. } = publication;
-    if !tables.copy(figures, i, register).readied && system.is_quorum(tables.voters(figures, Vote::Echo, i, register, value)) {
+    let Publication {
+        register,
+        value,
+        ..
+    } = publication;
+    if !tables.copy(figures, i, register).readied
+        && system.is_quorum(tables.voters(figures, Vote::Echo, i, register, value))
+    {
         send_ready(tables, figures, i, publication);
     }
 }
 
 // ECHO from station k: only its first vote counts.
-pub fn on_echo<V: Value, S: QuorumSystem>(tables: &mut Tables<V>, figures: &Figures<V>, system: &S, i: usize, k: usize, publication: Publication<V>)
+pub fn on_echo<V: Value, S: QuorumSystem>(
+    tables: &mut Tables<V>,
+    figures: &Figures<V>,
+    system: &S,
+    i: usize,
+    k: usize,
+    publication: Publication<V>,
+)
     requires sound { Sound figures.now tables.old }
     requires station { i < figures.now.stations }
     requires voter { k < figures.now.stations }
@@ -110,7 +174,11 @@ pub fn on_echo<V: Value, S: QuorumSystem>(tables: &mut Tables<V>, figures: &Figu
     ensures shows { Becomes figures.now tables.old tables.new (on_echo (setting (S.families system.now) V.eq) i publication.register k publication.value (view figures.now tables.old)) }
     ensures sent { tables.new.pool.waiting ≤ tables.old.pool.waiting + figures.now.stations }
 {
-    let Publication { register, value, .. } = publication;
+    let Publication {
+        register,
+        value,
+        ..
+    } = publication;
     if tables.vote(figures, Vote::Echo, i, register, k).is_none() {
         tables.set_vote(figures, Vote::Echo, i, register, k, value);
         count_echoes(tables, figures, system, i, publication);
@@ -118,7 +186,13 @@ pub fn on_echo<V: Value, S: QuorumSystem>(tables: &mut Tables<V>, figures: &Figu
 }
 
 // Station i is ready, too, once the stations whose READY vote is this value are more than may be faulty.
-fn join_readies<V: Value, S: QuorumSystem>(tables: &mut Tables<V>, figures: &Figures<V>, system: &S, i: usize, publication: Publication<V>)
+fn join_readies<V: Value, S: QuorumSystem>(
+    tables: &mut Tables<V>,
+    figures: &Figures<V>,
+    system: &S,
+    i: usize,
+    publication: Publication<V>,
+)
     requires sound { Sound figures.now tables.old }
     requires station { i < figures.now.stations }
     requires register { publication.register < figures.now.stations }
@@ -127,14 +201,27 @@ fn join_readies<V: Value, S: QuorumSystem>(tables: &mut Tables<V>, figures: &Fig
     ensures shows { Becomes figures.now tables.old tables.new (join_readies (setting (S.families system.now) V.eq) i publication.register publication.value (view figures.now tables.old)) }
     ensures sent { tables.new.pool.waiting ≤ tables.old.pool.waiting + figures.now.stations }
 {
-    let Publication { register, value, .. } = publication;
-    if !tables.copy(figures, i, register).readied && !system.is_allowed(tables.voters(figures, Vote::Ready, i, register, value)) {
+    let Publication {
+        register,
+        value,
+        ..
+    } = publication;
+    if !tables.copy(figures, i, register).readied
+        && !system.is_allowed(tables.voters(figures, Vote::Ready, i, register, value))
+    {
         send_ready(tables, figures, i, publication);
     }
 }
 
 // Station i answers station k if it awaits this number of the register.
-fn answer_one<V: Copy>(tables: &mut Tables<V>, figures: &Figures<V>, i: usize, j: usize, number: u64, k: usize)
+fn answer_one<V: Copy>(
+    tables: &mut Tables<V>,
+    figures: &Figures<V>,
+    i: usize,
+    j: usize,
+    number: u64,
+    k: usize,
+)
     requires sound { Sound figures.now tables.old }
     requires station { i < figures.now.stations }
     requires register { j < figures.now.stations }
@@ -156,7 +243,13 @@ fn answer_one<V: Copy>(tables: &mut Tables<V>, figures: &Figures<V>, i: usize, j
 }
 
 // Station i answers, from station 0 on, each station that awaits this number of the register.
-fn answer_each<V: Copy>(tables: &mut Tables<V>, figures: &Figures<V>, i: usize, j: usize, number: u64)
+fn answer_each<V: Copy>(
+    tables: &mut Tables<V>,
+    figures: &Figures<V>,
+    i: usize,
+    j: usize,
+    number: u64,
+)
     requires sound { Sound figures.now tables.old }
     requires station { i < figures.now.stations }
     requires register { j < figures.now.stations }
@@ -170,7 +263,12 @@ fn answer_each<V: Copy>(tables: &mut Tables<V>, figures: &Figures<V>, i: usize, 
 }
 
 // Station i takes the value, tells the owner, and answers those that awaited it.
-fn take_value<V: Copy>(tables: &mut Tables<V>, figures: &Figures<V>, i: usize, publication: Publication<V>)
+fn take_value<V: Copy>(
+    tables: &mut Tables<V>,
+    figures: &Figures<V>,
+    i: usize,
+    publication: Publication<V>,
+)
     requires sound { Sound figures.now tables.old }
     requires station { i < figures.now.stations }
     requires register { publication.register < figures.now.stations }
@@ -179,7 +277,11 @@ fn take_value<V: Copy>(tables: &mut Tables<V>, figures: &Figures<V>, i: usize, p
     ensures shows { Becomes figures.now tables.old tables.new (take_value i publication.register publication.value (view figures.now tables.old)) }
     ensures sent { tables.new.pool.waiting ≤ tables.old.pool.waiting + figures.now.stations + 1 }
 {
-    let Publication { register, number, value } = publication;
+    let Publication {
+        register,
+        number,
+        value,
+    } = publication;
     tables.renew(figures, i, register, number, value);
     let taken = Message::WriteDone {
         sender: i,
@@ -191,7 +293,13 @@ fn take_value<V: Copy>(tables: &mut Tables<V>, figures: &Figures<V>, i: usize, p
 }
 
 // Once the stations whose READY vote is this value are a quorum, station i takes it, and the freshness test follows.
-fn count_readies<V: Value, S: QuorumSystem>(tables: &mut Tables<V>, figures: &Figures<V>, system: &S, i: usize, publication: Publication<V>)
+fn count_readies<V: Value, S: QuorumSystem>(
+    tables: &mut Tables<V>,
+    figures: &Figures<V>,
+    system: &S,
+    i: usize,
+    publication: Publication<V>,
+)
     requires sound { Sound figures.now tables.old }
     requires station { i < figures.now.stations }
     requires register { publication.register < figures.now.stations }
@@ -200,7 +308,11 @@ fn count_readies<V: Value, S: QuorumSystem>(tables: &mut Tables<V>, figures: &Fi
     ensures shows { Becomes figures.now tables.old tables.new (count_readies (setting (S.families system.now) V.eq) i publication.register publication.value (view figures.now tables.old)) }
     ensures sent { tables.new.pool.waiting ≤ tables.old.pool.waiting + 2 * figures.now.stations + 1 }
 {
-    let Publication { register, value, .. } = publication;
+    let Publication {
+        register,
+        value,
+        ..
+    } = publication;
     if system.is_quorum(tables.voters(figures, Vote::Ready, i, register, value)) {
         take_value(tables, figures, i, publication);
         test_freshness(tables, figures, system, i, register);
@@ -208,7 +320,14 @@ fn count_readies<V: Value, S: QuorumSystem>(tables: &mut Tables<V>, figures: &Fi
 }
 
 // READY from station k: only its first vote counts.
-pub fn on_ready<V: Value, S: QuorumSystem>(tables: &mut Tables<V>, figures: &Figures<V>, system: &S, i: usize, k: usize, publication: Publication<V>)
+pub fn on_ready<V: Value, S: QuorumSystem>(
+    tables: &mut Tables<V>,
+    figures: &Figures<V>,
+    system: &S,
+    i: usize,
+    k: usize,
+    publication: Publication<V>,
+)
     requires sound { Sound figures.now tables.old }
     requires station { i < figures.now.stations }
     requires voter { k < figures.now.stations }
@@ -218,7 +337,11 @@ pub fn on_ready<V: Value, S: QuorumSystem>(tables: &mut Tables<V>, figures: &Fig
     ensures shows { Becomes figures.now tables.old tables.new (on_ready (setting (S.families system.now) V.eq) i publication.register k publication.value (view figures.now tables.old)) }
     ensures sent { tables.new.pool.waiting ≤ tables.old.pool.waiting + (3 * figures.now.stations + 1) }
 {
-    let Publication { register, value, .. } = publication;
+    let Publication {
+        register,
+        value,
+        ..
+    } = publication;
     if tables.vote(figures, Vote::Ready, i, register, k).is_none() {
         tables.set_vote(figures, Vote::Ready, i, register, k, value);
         join_readies(tables, figures, system, i, publication);

@@ -1,5 +1,5 @@
 -- Tables that hold what opening writes show the state of a bench that has just been opened.
-use Rattle.std.proofs.Common.{◌≡◌, ℕ, zero, ◌+◌, ◌*◌, ◌<◌, ◌≤◌, List, [], ◌∷◌, None, Option, ap, ap₂, ◌∙◌, arith}
+use Rattle.std.proofs.Common.{◌≡◌, ℕ, ◌*◌, ◌≤◌, List, [], ◌∷◌, None, Option, ap, ap₂, ◌∙◌, arith}
 use Rattle.std.proofs.Math.Path.{fun_ext}
 use Rattle.grid.specs.Lent.{Filled}
 use Rattle.grid.specs.Grid.{entries, shown, line, pairs, triples, halves}
@@ -8,7 +8,7 @@ use Rattle.machine.specs.declared.figures.Figures.{Figures}
 use Rattle.machine.specs.declared.message.Message.{Message}
 use Rattle.machine.specs.declared.station.Station.{Station}
 use Rattle.machine.specs.declared.station.RegisterCopy.{RegisterCopy}
-use Rattle.machine.specs.State.{Cell, State, fresh_cell}
+use Rattle.machine.specs.State.{State, fresh_cell}
 use Rattle.tables.specs.View.{first_copy, first_station, cells, at_opening}
 
 clear : {X : Type 0} (d : X) (h n : ℕ) (xs ys : List X) (m : ℕ) → Filled 0 m d xs ys → (i : ℕ) (is : List ℕ) → entries n h is ≤ m → shown d h n ys i is ≡ d
@@ -31,9 +31,9 @@ module _ {V : Type 0} (f : Figures V) (copies copies' : List (RegisterCopy V)) (
   first_cells : cells f copies' votes' ≡ (λ _ _. fresh_cell f.opening 0)
   first_cells =
       fun_ext (λ i. fun_ext (λ j.
-          ap (λ (c : RegisterCopy V). record { copy = c; echoes = halves None n votes' 0 i j; readies = halves None n votes' 1 i j })
-          (clear d n n copies copies' _ of_copies i (j ∷ []) (omega arith))
-          ∙ ap₂ (λ (x y : ℕ → Option V). record { copy = d; echoes = x; readies = y }) (no_vote 0 i j) (no_vote 1 i j)))
+      ap (λ (c : RegisterCopy V). record { copy = c; echoes = halves None n votes' 0 i j; readies = halves None n votes' 1 i j })
+      (clear d n n copies copies' _ of_copies i (j ∷ []) (omega arith))
+      ∙ ap₂ (λ (x y : ℕ → Option V). record { copy = d; echoes = x; readies = y }) (no_vote 0 i j) (no_vote 1 i j)))
 
   numbers : (xs ys : List ℕ) → Filled 0 (n * n) 0 xs ys → pairs 0 n ys ≡ (λ _ _. 0)
   numbers xs ys filled = fun_ext (λ i. fun_ext (λ j. clear 0 n n xs ys _ filled i (j ∷ []) (omega arith)))

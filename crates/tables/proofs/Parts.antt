@@ -1,5 +1,5 @@
 -- One table of the bench changes, and the others stay.
-use Rattle.std.proofs.Common.{◌≡◌, ℕ, ◌*◌, ◌≤◌, List, [], length, Option, refl, sym, subst, ap, ◌∙◌, arith}
+use Rattle.std.proofs.Common.{◌≡◌, ℕ, ◌*◌, ◌≤◌, List, [], Option, refl, sym, subst, arith}
 use Rattle.std.specs.Borrow.{MutBor}
 use Rattle.std.specs.List.{All}
 use Rattle.std.proofs.lemmas.List.Elements.{All-nil}
@@ -57,11 +57,11 @@ module _ {V : Type 0} (f : Figures V) (t : Tables V) where
         record {
           shows = shows;
           sound =
-            record {
-              room = room_kept lent sound.room;
-              waiting = waiting;
-              named = named;
-            };
+              record {
+                room = room_kept lent sound.room;
+                waiting = waiting;
+                named = named;
+              };
           lent = lent;
         }
 

@@ -1,10 +1,10 @@
 -- What the tables show after a write: the table's entry, and with it one part of the state, becomes another.
-use Rattle.std.proofs.Common.{◌≡◌, ℕ, ◌+◌, ◌*◌, ◌<◌, ◌≤◌, Bool, true, false, cond, ◌&&◌, eqb, List, length, get_or, set, Some, None, Option, refl, sym, ap, ap₂, ◌∙◌, arith, ⊎_elim}
+use Rattle.std.proofs.Common.{◌≡◌, ℕ, ◌+◌, ◌*◌, ◌<◌, ◌≤◌, Bool, true, false, cond, ◌&&◌, eqb, List, length, get_or, set, Some, None, Option, refl, sym, ap, ap₂, ◌∙◌, arith}
 use Rattle.std.proofs.Math.Path.{fun_ext}
 use Rattle.std.proofs.lemmas.Bool.{and_parts, and_from, eqb-true, eq-eqb}
 use Rattle.std.proofs.lemmas.Bool.Decides.{nat_tests}
 use Rattle.grid.specs.Lent.{Filled}
-use Rattle.grid.specs.Grid.{row_index, line, pairs, triples, halves}
+use Rattle.grid.specs.Grid.{row_index, line, pairs, triples}
 use Rattle.grid.proofs.Entries.{line-set, pairs-set, triples-set, halves-set, halves-fill, halves_is}
 use Rattle.machine.specs.declared.figures.Figures.{Figures}
 use Rattle.machine.specs.declared.station.Stage.{Stage}
@@ -48,8 +48,8 @@ module _ {V : Type 0} (f : Figures V) where
   votes_by copies us vs i j c away here =
       put_pair_by (cells f copies us) (cells f copies vs) i j c
       (λ a b e.
-          ap₂ (λ (x y : ℕ → Option V). record { copy = pairs d n copies a b; echoes = x; readies = y })
-          (fun_ext (λ k. away Echo a b k e)) (fun_ext (λ k. away Ready a b k e)))
+      ap₂ (λ (x y : ℕ → Option V). record { copy = pairs d n copies a b; echoes = x; readies = y })
+      (fun_ext (λ k. away Echo a b k e)) (fun_ext (λ k. away Ready a b k e)))
       here
 
   pub cells-vote : (copies : List (RegisterCopy V)) (votes : List (Option V)) (kind : Vote) (i j k : ℕ) (v : V) → 2 * n * n * n ≤ length votes → i < n → j < n → k < n
@@ -64,6 +64,7 @@ module _ {V : Type 0} (f : Figures V) where
       other : (kind : Vote) (a b m : ℕ) → (eqb a i && eqb b j) ≡ false
           → cond (eqb (half kind) 0 && (eqb a i && (eqb b j && eqb m k))) (Some v) (votes_shown n votes kind a b m) ≡ votes_shown n votes kind a b m
       other kind a b m e = grind (arith, nat_tests)
+
       same : (m : ℕ) → cond (eqb i i && (eqb j j && eqb m k)) (Some v) (votes_shown n votes Echo i j m) ≡ put k (Some v) (votes_shown n votes Echo i j) m
       same m = grind (arith, nat_tests)
   cells-vote copies votes Ready i j k v room p q r =
@@ -76,6 +77,7 @@ module _ {V : Type 0} (f : Figures V) where
       other : (kind : Vote) (a b m : ℕ) → (eqb a i && eqb b j) ≡ false
           → cond (eqb (half kind) 1 && (eqb a i && (eqb b j && eqb m k))) (Some v) (votes_shown n votes kind a b m) ≡ votes_shown n votes kind a b m
       other kind a b m e = grind (arith, nat_tests)
+
       same : (m : ℕ) → cond (eqb i i && (eqb j j && eqb m k)) (Some v) (votes_shown n votes Ready i j m) ≡ put k (Some v) (votes_shown n votes Ready i j) m
       same m = grind (arith, nat_tests)
 
@@ -90,13 +92,17 @@ cells-clear {V} f copies us vs kind i j filled p q =
         → votes_shown f.stations us g a b k ≡ cond (eqb (half g) (half kind) && (eqb a i && eqb b j)) None (votes_shown f.stations vs g a b k)
     shown Echo filled g a b k = halves-fill None f.stations vs us 0 i j filled (omega arith) p q (half g) a b k
     shown Ready filled g a b k = halves-fill None f.stations vs us 1 i j filled (omega arith) p q (half g) a b k
+
     away : (kind g : Vote) (a b k : ℕ) → (eqb a i && eqb b j) ≡ false
         → cond (eqb (half g) (half kind) && (eqb a i && eqb b j)) None (votes_shown f.stations vs g a b k) ≡ votes_shown f.stations vs g a b k
     away kind g a b k e = grind (arith, nat_tests)
+
     same : (k : ℕ) (o : Option V) → cond (true && (eqb i i && eqb j j)) None o ≡ None
     same k o = grind (arith, nat_tests)
+
     cell : (ℕ → Option V) → (ℕ → Option V) → Cell V
     cell x y = record { copy = pairs (first_copy f.opening) f.stations copies i j; echoes = x; readies = y }
+
     here : (kind : Vote) → Filled (row_index f.stations (row_index f.stations (half kind) i) j * f.stations) f.stations None vs us → cells f copies us i j ≡ no_votes kind (cells f copies vs i j)
     here Echo filled = ap₂ cell (fun_ext (λ k. shown Echo filled Echo i j k ∙ same k _)) (fun_ext (λ k. shown Echo filled Ready i j k))
     here Ready filled = ap₂ cell (fun_ext (λ k. shown Ready filled Echo i j k)) (fun_ext (λ k. shown Ready filled Ready i j k ∙ same k _))

@@ -4,12 +4,11 @@ ghost use Rattle.machine.specs.State.{fresh_cell, put_triple, remove, send, to_a
 ghost use Rattle.machine.specs.Calls.{Names};
 ghost use Rattle.tables.specs.View.{view, vote, with_no_votes, with_copy, at_opening, Room, Sound, Becomes, SendsEach};
 
+use crate::lent::{Tables, Vote};
 use grid::{fill, pair_index, put, triple_index, vote_index, votes_index};
 use machine::figures::Figures;
 use machine::message::Message;
 use machine::station::{RegisterCopy, Stage, Station};
-
-use crate::lent::{Tables, Vote};
 
 impl<'a, V: Copy> Tables<'a, V> {
     pub fn set_copy(&mut self, figures: &Figures<V>, i: usize, j: usize, copy: RegisterCopy<V>)

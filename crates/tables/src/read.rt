@@ -5,14 +5,13 @@ ghost use Rattle.value.specs.Holders.{keeps};
 ghost use Rattle.machine.specs.Operations.{fresh_reports};
 ghost use Rattle.tables.specs.View.{view, votes_of, Sound};
 
+use crate::lent::{Tables, Vote};
 use grid::{pair_index, triple_index, vote_index, votes_index};
 use machine::figures::Figures;
 use machine::message::Message;
 use machine::station::{RegisterCopy, Station};
 use station_set::{contains, those};
 use value::{Value, holders};
-
-use crate::lent::{Tables, Vote};
 
 impl<'a, V: Copy> Tables<'a, V> {
     // Station i's copy of register j.

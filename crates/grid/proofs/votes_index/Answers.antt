@@ -1,4 +1,4 @@
-use Rattle.std.proofs.Common.{arith, ◌*◌, ◌<◌, ◌+◌, ◌-◌}
+use Rattle.std.proofs.Common.{arith, ◌*◌, ◌<◌, ◌-◌}
 use Rattle.grid.proofs.Entries.{row_below}
 use Rattle.grid.proofs.votes_index.Goals as goal
 

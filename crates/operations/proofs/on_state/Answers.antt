@@ -1,7 +1,6 @@
 use Rattle.std.proofs.Common.{rules, tests}
 use Rattle.machine.specs.State.{setting}
 use Rattle.machine.specs.Operations.{test_freshness}
-use Rattle.tables.specs.View.{view}
 use Rattle.tables.proofs.Chain.{and_then, becomes_same}
 use Rattle.operations.proofs.on_state.Goals as goal
 

@@ -12,6 +12,7 @@ loop-k-preserved g c =
     let k = c.loop-k.k in
     let i = c.args.i in
     let j = c.args.j in
-    let x = c.args.number in
-    ( becomes_same f t _ _ _ (answer_more i j x k (view f t)) (and_then f t _ _ (answer_first k i j x (view f t)) (answer_one i j x k) c.loop-k.invariant.0 c.answer_one.ensures.shows)
-    , omega (arith, c.loop-k.invariant.1, c.answer_one.ensures.sent) )
+    let x = c.args.number in (
+      becomes_same f t _ _ _ (answer_more i j x k (view f t)) (and_then f t _ _ (answer_first k i j x (view f t)) (answer_one i j x k) c.loop-k.invariant.0 c.answer_one.ensures.shows),
+      omega (arith, c.loop-k.invariant.1, c.answer_one.ensures.sent),
+    )

@@ -1,5 +1,5 @@
 use Rattle.std.proofs.Common.{rules, tests, suc, sym, ap, ◌∙◌}
-use Rattle.machine.specs.State.{State, setting, number}
+use Rattle.machine.specs.State.{setting, number}
 use Rattle.machine.specs.Publishing.{count_echoes}
 use Rattle.tables.specs.declared.lent.Vote.TheVariants.{Echo}
 use Rattle.tables.specs.View.{view}

@@ -1,7 +1,6 @@
-use Rattle.std.proofs.Common.{◌≡◌, ℕ, suc, [], ◌∷◌, ◌++◌, ap, ap₂, ◌∙◌}
+use Rattle.std.proofs.Common.{[], ◌∷◌}
 use Rattle.machine.specs.declared.message.Message.TheVariants.{WriteDone}
-use Rattle.machine.specs.State.{State, fresh_cell, with_cell, send}
-use Rattle.tables.specs.View.{view}
+use Rattle.machine.specs.State.{send}
 use Rattle.tables.proofs.Chain.{and_then, becomes_same}
 use Rattle.publishing.specs.Answering.{answer_first}
 use Rattle.publishing.proofs.Answered.{value_taken}

@@ -1,4 +1,4 @@
-use Rattle.std.proofs.Common.{rules, tests, ap, sym, ◌∙◌}
+use Rattle.std.proofs.Common.{rules, tests, ap, ◌∙◌}
 use Rattle.machine.specs.Calls.{ahead}
 use Rattle.tables.specs.View.{view}
 use Rattle.calls.proofs.Removal.{ahead_removed}

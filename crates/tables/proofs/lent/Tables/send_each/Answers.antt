@@ -18,8 +18,8 @@ returns-clause-shows g c =
     let sound = c.requires.sound in
     let n = f.stations in
     λ table each named.
-      let order = c.join_each.ensures.order table each in
-      pool_becomes f t sound _ _ (past_more _ f.places _ _ (omega (arith, c.requires.room, c.join_each.ensures.waiting)) c.join_each.ensures.past)
-      (omega (arith, c.requires.room, c.join_each.ensures.waiting))
-      (subst (All (Names n)) (sym order) (All-append (Names n) (in_order t.pool) (to_all n table) sound.named (all_below (Names n) table 0 n n (omega arith) named)))
-      (ap (λ messages. record (view f t) { pool = messages }) order)
+    let order = c.join_each.ensures.order table each in
+    pool_becomes f t sound _ _ (past_more _ f.places _ _ (omega (arith, c.requires.room, c.join_each.ensures.waiting)) c.join_each.ensures.past)
+    (omega (arith, c.requires.room, c.join_each.ensures.waiting))
+    (subst (All (Names n)) (sym order) (All-append (Names n) (in_order t.pool) (to_all n table) sound.named (all_below (Names n) table 0 n n (omega arith) named)))
+    (ap (λ messages. record (view f t) { pool = messages }) order)

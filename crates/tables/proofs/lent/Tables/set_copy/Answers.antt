@@ -1,4 +1,4 @@
-use Rattle.std.proofs.Common.{slice_set, ap, sym, ◌∙◌, refl, arith}
+use Rattle.std.proofs.Common.{slice_set, ap, ◌∙◌, refl}
 use Rattle.grid.proofs.Lent.{past_set}
 use Rattle.tables.specs.View.{view, cells}
 use Rattle.tables.proofs.Shown.{cells-copy}

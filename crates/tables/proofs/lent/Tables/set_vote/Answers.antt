@@ -1,4 +1,4 @@
-use Rattle.std.proofs.Common.{◌≡◌, slice_set, ap, ap₂, sym, ◌∙◌, refl, arith, Some}
+use Rattle.std.proofs.Common.{◌≡◌, slice_set, ap, ◌∙◌, refl, Some}
 use Rattle.grid.proofs.Lent.{past_set}
 use Rattle.grid.specs.Grid.{row_index}
 use Rattle.tables.specs.View.{view, cells, half}

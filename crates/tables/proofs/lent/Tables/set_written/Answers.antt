@@ -1,4 +1,4 @@
-use Rattle.std.proofs.Common.{slice_set, ap, sym, ◌∙◌, refl, arith, slice_index_or, ◌≡◌}
+use Rattle.std.proofs.Common.{ap, sym, ◌∙◌, refl, arith, slice_index_or, ◌≡◌}
 use Rattle.grid.proofs.Lent.{past_set}
 use Rattle.grid.specs.Grid.{line}
 use Rattle.std.proofs.lemmas.List.{get_or_default}

@@ -1,11 +1,10 @@
-use Rattle.std.proofs.Common.{◌≡◌, ℕ, ◌+◌, ◌*◌, ◌-◌, ◌<◌, ◌≤◌, Bool, List, length, get_or, drop, take, None, Option, sym, ap, ◌∙◌, arith, slice_range}
+use Rattle.std.proofs.Common.{◌≡◌, ℕ, ◌+◌, ◌*◌, ◌≤◌, Bool, length, get_or, None, sym, ap, ◌∙◌, arith, slice_range}
 use Rattle.std.proofs.lemmas.List.{get_or_past}
 use Rattle.std.proofs.lemmas.List.Edits.{length-between, get_or-between}
-use Rattle.station_set.specs.Sets.{set_of}
 use Rattle.station_set.proofs.Members.{set_of_same, set_of_rest}
 use Rattle.value.specs.Holders.{keeps}
 use Rattle.grid.specs.Grid.{row_index}
-use Rattle.tables.specs.View.{view, half, votes_of, votes_shown}
+use Rattle.tables.specs.View.{view, half, votes_of}
 use Rattle.tables.proofs.Shown.{row-votes}
 use Rattle.tables.proofs.lent.Tables.voters.Goals as goal
 
@@ -26,6 +25,6 @@ returns g c =
     ∙ sym (set_of_rest n 16 test (omega (arith, c.requires.sound.room.few)) (omega arith) (λ s past room. ap (keeps g.V.PartialEq.eq a.v) (get_or_past row s None (omega (arith, long)))))
     ∙ set_of_same n test (λ k. keeps g.V.PartialEq.eq a.v (votes_of a.kind ((view f t).cell a.i a.j) k))
     (λ s l.
-        ap (keeps g.V.PartialEq.eq a.v)
-        (get_or-between t.votes.now at (at + n) s None (omega (arith, l)) ∙ ap (λ m. get_or t.votes.now (m + s) None) first
-        ∙ sym (row-votes f t.copies.now t.votes.now a.kind a.i a.j s c.requires.station c.requires.register l)))
+    ap (keeps g.V.PartialEq.eq a.v)
+    (get_or-between t.votes.now at (at + n) s None (omega (arith, l)) ∙ ap (λ m. get_or t.votes.now (m + s) None) first
+    ∙ sym (row-votes f t.copies.now t.votes.now a.kind a.i a.j s c.requires.station c.requires.register l)))
