@@ -64,8 +64,8 @@ pub fn test_freshness<V: Value, S: QuorumSystem>(
 {
     if let Stage::Querying {
         register,
-        read: _,
         reported,
+        ..
     } = tables.station(figures, i).stage
     {
         let number = tables.copy(figures, i, j).number;
@@ -142,13 +142,12 @@ pub fn on_read<V: Copy>(
     ensures shows { Becomes figures.now tables.old tables.new (on_read i k j read (view figures.now tables.old)) }
     ensures sent { tables.new.pool.waiting ≡ tables.old.pool.waiting + 1 }
 {
-    let number = tables.copy(figures, i, j).number;
     let told = Message::State {
         sender: i,
         receiver: k,
         register: j,
         read,
-        number,
+        number: tables.copy(figures, i, j).number,
     };
     tables.send(figures, told);
 }
