@@ -1,5 +1,17 @@
 //! The examples as the code plays them.
+ghost use Rattle.tables.specs.View.{Sound};
+
+use calls::begin::{begin_read, begin_write};
+use calls::count::count;
+use calls::forge::forge;
+use calls::open::open;
+use calls::take::{take, withdraw};
 use decline::Decline;
+use machine::call::{Answer, Forgery, Opening};
+use machine::figures::Figures;
+use machine::message::Message;
+use machine::station::{RegisterCopy, Stage, Station};
+use pool::Pool;
 use quorum::QuorumSystem;
 use quorum::by_site::BySite;
 use quorum::counting::Counting;
@@ -7,6 +19,7 @@ use quorum::unfit::Unfit;
 use std::alloc::{AllocError, Global};
 use std::test::Fail;
 use survey_text::answer;
+use tables::lent::Tables;
 use value::{Number, Printable, Tally, holders};
 
 #[test]
@@ -152,5 +165,144 @@ fn unreadable_arguments(rt: HostRuntime) -> Result<(), Fail> {
     assert_eq!(rt; too_large.as_str(), none.as_str());
     let other_word = printed(rt.alloc(), &["graph", "4", "1"])?;
     assert_eq!(rt; other_word.as_str(), none.as_str());
+    Ok(())
+}
+
+// Takes the message in front until none is left, or the one in front has to wait; the last operation that ended.
+fn settle(
+    tables: &mut Tables<Number>,
+    figures: &Figures<Number>,
+    system: &Counting,
+) -> Option<Answer<Number>>
+    requires { Sound figures.now tables.old }
+    ensures { Sound figures.now tables.new }
+{
+    let mut ended = None;
+    for _ in 0..1000 {
+        match take(tables, figures, system, 0) {
+            Ok(Answer::Done) => {}
+            Ok(answer) => ended = Some(answer),
+            Err(_) => return ended,
+        }
+    }
+    ended
+}
+
+#[test]
+fn a_write_and_a_read_on_lent_tables(rt: HostRuntime) -> Result<(), Fail> {
+    let system = Counting::new(4, 1)?;
+    let filler = Number(99);
+    let copy = RegisterCopy {
+        value: filler,
+        number: 77,
+        echoed: true,
+        readied: true,
+    };
+    let station = Station {
+        opening: filler,
+        written: 77,
+        stage: Stage::Idle,
+    };
+    // Each table is longer than the bench asks, and holds what opening has to clear.
+    let lost = Message::WriteDone {
+        sender: 9,
+        receiver: 9,
+        number: 9,
+    };
+    let mut messages = [lost; 60];
+    let mut votes = [Some(filler); 140];
+    let mut held = [77; 70];
+    let mut stations = [station; 5];
+    let mut copies = [copy; 20];
+    let mut reads = [77; 20];
+    let mut reports = [77; 20];
+    let mut tables = Tables {
+        pool: Pool {
+            slots: &mut messages,
+            waiting: 3,
+        },
+        votes: &mut votes,
+        held: &mut held,
+        stations: &mut stations,
+        copies: &mut copies,
+        reads: &mut reads,
+        reports: &mut reports,
+    };
+    let opening = Opening {
+        faulty: 0b1000,
+        highest: 9,
+        places: 50,
+        value: Number(5),
+    };
+    let figures = open(&mut tables, &system, &opening)?;
+    assert_eq!(rt; count(&tables, &figures), (0, 0));
+    assert_eq!(rt;
+        begin_write(&mut tables, &figures, 0, Number(7)),
+        Ok(Answer::Done)
+    );
+    assert_eq!(rt; count(&tables, &figures), (4, 3));
+    assert_eq!(rt;
+        begin_write(&mut tables, &figures, 0, Number(8)),
+        Err(Decline::NotIdle)
+    );
+    assert_eq!(rt;
+        begin_write(&mut tables, &figures, 3, Number(8)),
+        Err(Decline::WrongSide)
+    );
+    assert_eq!(rt;
+        begin_read(&mut tables, &figures, 1, 4294967296),
+        Err(Decline::NoSuchStation)
+    );
+    let written = settle(&mut tables, &figures, &system);
+    assert_eq!(rt;
+        written,
+        Some(Answer::WriteEnded {
+            station: 0,
+            number: 1
+        })
+    );
+    // The faulty station is the third to tell station 1 how far it is, and tells too much; then it takes that back.
+    assert_eq!(rt; begin_read(&mut tables, &figures, 1, 0), Ok(Answer::Done));
+    let too_far = Forgery {
+        kind: 6,
+        sender: 3,
+        receiver: 1,
+        register: 0,
+        number: 9,
+        read: 1,
+        value: Number(0),
+    };
+    assert_eq!(rt; forge(&mut tables, &figures, &too_far), Ok(Answer::Done));
+    assert_eq!(rt;
+        forge(
+            &mut tables,
+            &figures,
+            &Forgery {
+                kind: 262,
+                ..too_far
+            }
+        ),
+        Err(Decline::BadForgery)
+    );
+    assert_eq!(rt; count(&tables, &figures), (5, 3));
+    assert_eq!(rt; withdraw(&mut tables, &figures, 3), Err(Decline::WrongSide));
+    assert_eq!(rt; withdraw(&mut tables, &figures, 4), Ok(Answer::Done));
+    let read = settle(&mut tables, &figures, &system);
+    let returned = Answer::ReadEnded {
+        station: 1,
+        register: 0,
+        number: 1,
+        value: Number(7),
+    };
+    assert_eq!(rt; read, Some(returned));
+    assert_eq!(rt; count(&tables, &figures), (0, 0));
+    // Past what the bench asks, the tables hold what they held.
+    assert!(rt; messages[50..].iter().all(|message| *message == lost));
+    assert!(rt; votes[128..].iter().all(|vote| *vote == Some(filler)));
+    assert!(rt; held[64..].iter().all(|number| *number == 77));
+    assert!(rt; stations[4..].iter().all(|record| *record == station));
+    assert!(rt; copies[16..].iter().all(|entry| *entry == copy));
+    assert!(rt; reads[16..].iter().all(|number| *number == 77));
+    assert!(rt; reports[16..].iter().all(|number| *number == 77));
     Ok(())
 }

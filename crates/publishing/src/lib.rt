@@ -4,6 +4,7 @@
 
 ghost use Rattle.std.specs.Prelude.{◌≡◌, suc, ◌+◌, ◌*◌, ◌<◌, ◌≤◌};
 ghost use Rattle.machine.specs.State.{setting, number};
+ghost use Rattle.machine.specs.Operations.{test_freshness};
 ghost use Rattle.machine.specs.Publishing.{send_echo, send_ready, on_init, count_echoes, on_echo, join_readies, take_value, count_readies, on_ready};
 ghost use Rattle.tables.specs.View.{view, Sound, Becomes};
 ghost use Rattle.publishing.specs.Answering.{answer_one, answer_first};
@@ -292,6 +293,26 @@ fn take_value<V: Copy>(
     answer_each(tables, figures, i, register, number);
 }
 
+// Station i takes the value, and the freshness test follows.
+fn take_and_test<V: Value, S: QuorumSystem>(
+    tables: &mut Tables<V>,
+    figures: &Figures<V>,
+    system: &S,
+    i: usize,
+    publication: Publication<V>,
+)
+    requires sound { Sound figures.now tables.old }
+    requires station { i < figures.now.stations }
+    requires register { publication.register < figures.now.stations }
+    requires next { publication.number ≡ suc (number (view figures.now tables.old) i publication.register) }
+    requires room { tables.old.pool.waiting + 2 * figures.now.stations + 1 ≤ figures.now.places }
+    ensures shows { Becomes figures.now tables.old tables.new (test_freshness (setting (S.families system.now) V.eq) i publication.register (take_value i publication.register publication.value (view figures.now tables.old))) }
+    ensures sent { tables.new.pool.waiting ≤ tables.old.pool.waiting + 2 * figures.now.stations + 1 }
+{
+    take_value(tables, figures, i, publication);
+    test_freshness(tables, figures, system, i, publication.register);
+}
+
 // Once the stations whose READY vote is this value are a quorum, station i takes it, and the freshness test follows.
 fn count_readies<V: Value, S: QuorumSystem>(
     tables: &mut Tables<V>,
@@ -314,8 +335,7 @@ fn count_readies<V: Value, S: QuorumSystem>(
         ..
     } = publication;
     if system.is_quorum(tables.voters(figures, Vote::Ready, i, register, value)) {
-        take_value(tables, figures, i, publication);
-        test_freshness(tables, figures, system, i, register);
+        take_and_test(tables, figures, system, i, publication);
     }
 }
 
