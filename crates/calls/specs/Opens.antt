@@ -5,7 +5,7 @@ use Rattle.decline.specs.declared.Decline.{Decline}
 use Rattle.machine.specs.declared.figures.Figures.{Figures}
 use Rattle.machine.specs.declared.call.Opening.{Opening}
 use Rattle.machine.specs.State.{Setting}
-use Rattle.machine.specs.Calls.{Lent, open_decline, opened}
+use Rattle.machine.specs.Calls.{Lent, open_decline, figures_of, opened}
 use Rattle.tables.specs.declared.lent.Tables.{Tables}
 use Rattle.tables.specs.View.{Becomes}
 use Rattle.calls.specs.Follows.{permitted}
@@ -25,6 +25,6 @@ lengths t =
 
 -- It gives the figures that the machine opens with, and the tables show its state; where it is declined, it wrote nothing.
 pub record Opens {V : Type 0} (c : Setting V) (o : Opening V) (before after : Tables V) (result : Result (Figures V) Decline) : Type 0 where
-  pub figures : result ≡ permitted (open_decline c (lengths before) o) (opened c o).figures
+  pub figures : result ≡ permitted (open_decline c (lengths before) o) (figures_of c o)
   pub shows : ForOk result (λ f. Becomes f before after (opened c o))
   pub declined : ForErr result (λ reason. after ≡ before)

@@ -1,5 +1,5 @@
 //! Beginning an operation.
-ghost use Rattle.std.specs.Prelude.{◌≡◌, ◌+◌, ◌*◌, ◌<◌, ◌≤◌};
+ghost use Rattle.std.specs.Prelude.{◌+◌, ◌*◌, ◌<◌, ◌≤◌};
 ghost use Rattle.machine.specs.Calls.{begin_write as start_write, write_outcome, begin_read as start_read, read_outcome};
 ghost use Rattle.tables.specs.View.{view, Sound, Becomes};
 ghost use Rattle.calls.specs.Follows.{Follows};

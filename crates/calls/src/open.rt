@@ -2,7 +2,6 @@
 ghost use Rattle.std.specs.Prelude.{◌≡◌, ◌≤◌};
 ghost use Rattle.machine.specs.State.{setting};
 ghost use Rattle.machine.specs.Calls.{suffices, in_limits};
-ghost use Rattle.tables.specs.View.{at_opening, Becomes};
 ghost use Rattle.calls.specs.Opens.{lengths, Opens};
 
 use crate::permit::require;

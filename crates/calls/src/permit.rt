@@ -1,6 +1,5 @@
 //! Whether a call is permitted: the reasons against it, in their order.
-ghost use Rattle.std.specs.Prelude.{◌≡◌, ◌+◌, ◌*◌, ◌<◌, ◌≤◌, if◌then◌else◌, Ok, Err};
-ghost use Rattle.std.specs.Result.{ForOk};
+ghost use Rattle.std.specs.Prelude.{◌≡◌, ◌+◌, ◌*◌, ◌<◌, if◌then◌else◌, Ok, Err};
 ghost use Rattle.machine.specs.Calls.{has_places, is_idle, write_decline, read_decline};
 ghost use Rattle.tables.specs.View.{view, Sound};
 ghost use Rattle.calls.specs.Follows.{permitted};

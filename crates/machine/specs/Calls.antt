@@ -3,10 +3,12 @@ use Rattle.std.specs.Prelude.{◌≡◌, ℕ, suc, ◌+◌, ◌*◌, ◌<◌, Bo
 use Rattle.std.specs.List.{slice_get}
 use Rattle.decline.specs.declared.Decline.{Decline}
 use Rattle.decline.specs.declared.Decline.TheVariants.{Closed, AlreadyOpen, OutsideLimits, NotAllowed, OtherSize, NoSuchStation, WrongSide, BadForgery, NotIdle, NumbersUsedUp, NoSuchMessage, Ahead, PoolFull}
+use Rattle.machine.specs.declared.figures.Figures.{Figures}
 use Rattle.machine.specs.declared.message.Message.{Message}
 use Rattle.machine.specs.declared.message.Message.TheVariants.{Init, Echo, Ready, WriteDone, Read, State as StateOf, CatchUp, CatchUpDone}
 use Rattle.machine.specs.declared.station.Stage.{Stage}
 use Rattle.machine.specs.declared.station.Stage.TheVariants.{Idle, Writing, Querying, Catching}
+use Rattle.machine.specs.declared.station.Station.{Station}
 use Rattle.machine.specs.declared.call.Opening.{Opening}
 use Rattle.machine.specs.declared.call.Forgery.{Forgery}
 use Rattle.machine.specs.declared.call.Call.{Call}
@@ -326,17 +328,30 @@ open_reasons c t o =
 abbrev pub open_decline : {V : Type 0} → Setting V → Lent → Opening V → Option Decline
 open_decline c t o = first_that_fits (open_reasons c t o)
 
-abbrev pub opened : {V : Type 0} → Setting V → Opening V → State V
-opened c o =
+-- what opening fixes
+abbrev pub figures_of : {V : Type 0} → Setting V → Opening V → Figures V
+figures_of c o =
+    record { stations = c.system.stations; faulty = o.faulty; highest = o.highest; places = o.places; opening = o.value }
+
+-- the record of a station that has done nothing
+abbrev pub first_station : {V : Type 0} → V → Station V
+first_station v = record { opening = v; written = 0; stage = Idle }
+
+-- the state of a bench that has just been opened with these figures
+abbrev pub at_opening : {V : Type 0} → Figures V → State V
+at_opening f =
     record {
-      figures = record { stations = c.system.stations; faulty = o.faulty; highest = o.highest; places = o.places; opening = o.value };
-      cell = λ _ _. fresh_cell o.value 0;
-      station = λ _. record { opening = o.value; written = 0; stage = Idle };
+      figures = f;
+      cell = λ _ _. fresh_cell f.opening 0;
+      station = λ _. first_station f.opening;
       reads = λ _ _. 0;
       reports = λ _ _. 0;
       held = λ _ _ _. 0;
       pool = [];
     }
+
+abbrev pub opened : {V : Type 0} → Setting V → Opening V → State V
+opened c o = at_opening (figures_of c o)
 
 -- A bench is closed over the lent tables, or open with a state.
 abbrev pub Bench : Type 0 → Type 0

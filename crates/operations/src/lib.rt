@@ -3,7 +3,6 @@
 #![tactic(auto)]
 
 ghost use Rattle.std.specs.Prelude.{◌≡◌, ◌+◌, ◌<◌, ◌≤◌};
-ghost use Rattle.station_set.specs.Sets.{with_station};
 ghost use Rattle.machine.specs.State.{setting};
 ghost use Rattle.machine.specs.Operations.{start_catching, test_freshness, keep_report, end_write, on_write_done, on_read, on_state, on_catch_up, end_read, on_catch_up_done};
 ghost use Rattle.tables.specs.View.{view, Sound, Becomes};

@@ -9,7 +9,8 @@ use Rattle.machine.specs.declared.message.Message.{Message}
 use Rattle.machine.specs.declared.station.Station.{Station}
 use Rattle.machine.specs.declared.station.RegisterCopy.{RegisterCopy}
 use Rattle.machine.specs.State.{State, fresh_cell}
-use Rattle.tables.specs.View.{first_copy, first_station, cells, at_opening}
+use Rattle.machine.specs.Calls.{first_station, at_opening}
+use Rattle.tables.specs.View.{first_copy, cells}
 
 clear : {X : Type 0} (d : X) (h n : ℕ) (xs ys : List X) (m : ℕ) → Filled 0 m d xs ys → (i : ℕ) (is : List ℕ) → entries n h is ≤ m → shown d h n ys i is ≡ d
 clear d h n xs ys m filled i is room = shown_clear d h n ys i is (λ k l. filled.inside k d (omega arith) (omega (arith, l, room)))

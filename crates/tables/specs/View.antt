@@ -1,17 +1,15 @@
 -- What the tables of an open bench show: the machine's state.
-use Rattle.std.specs.Prelude.{◌≡◌, ℕ, ◌*◌, ◌<◌, ◌≤◌, List, [], length, Option, None}
+use Rattle.std.specs.Prelude.{◌≡◌, ℕ, ◌*◌, ◌<◌, ◌≤◌, List, length, Option, None}
 use Rattle.std.specs.List.{All}
 use Rattle.grid.specs.Grid.{line, pairs, triples, halves}
 use Rattle.grid.specs.Lent.{SamePast}
 use Rattle.pool.specs.Pool.{in_order}
 use Rattle.machine.specs.declared.figures.Figures.{Figures}
 use Rattle.machine.specs.declared.message.Message.{Message}
-use Rattle.machine.specs.declared.station.Stage.TheVariants.{Idle}
-use Rattle.machine.specs.declared.station.Station.{Station}
 use Rattle.machine.specs.declared.station.RegisterCopy.{RegisterCopy}
 use Rattle.machine.specs.State.{Cell, State, fresh_cell, send, to_all, with_cell}
 use Rattle.machine.specs.Publishing.{vote_echo, vote_ready}
-use Rattle.machine.specs.Calls.{Names}
+use Rattle.machine.specs.Calls.{Names, first_station}
 use Rattle.tables.specs.declared.lent.Tables.{Tables}
 use Rattle.tables.specs.declared.lent.Vote.{Vote}
 use Rattle.tables.specs.declared.lent.Vote.TheVariants.{Echo, Ready}
@@ -19,9 +17,6 @@ use Rattle.tables.specs.declared.lent.Vote.TheVariants.{Echo, Ready}
 -- what a table shows past its stations: the entries that opening writes
 abbrev pub first_copy : {V : Type 0} → V → RegisterCopy V
 first_copy v = (fresh_cell v 0).copy
-
-abbrev pub first_station : {V : Type 0} → V → Station V
-first_station v = record { opening = v; written = 0; stage = Idle }
 
 -- the votes of a kind
 abbrev pub half : Vote → ℕ
@@ -107,19 +102,6 @@ no_votes Ready c = record { copy = c.copy; echoes = c.echoes; readies = λ _. No
 
 abbrev pub with_no_votes : {V : Type 0} → Vote → ℕ → ℕ → State V → State V
 with_no_votes kind i j s = with_cell i j (no_votes kind (s.cell i j)) s
-
--- the state of a bench that has just been opened
-abbrev pub at_opening : {V : Type 0} → Figures V → State V
-at_opening f =
-    record {
-      figures = f;
-      cell = λ _ _. fresh_cell f.opening 0;
-      station = λ _. first_station f.opening;
-      reads = λ _ _. 0;
-      reports = λ _ _. 0;
-      held = λ _ _ _. 0;
-      pool = [];
-    }
 
 -- If the message to station k can only be the one that a table has, those of the table are sent.
 abbrev pub SendsEach : {V : Type 0} → Figures V → (ℕ → Message V → Type 0) → Tables V → Tables V → Type 0

@@ -1,8 +1,8 @@
 //! Changing one part of the tables. Each function says which state the tables show afterwards.
-ghost use Rattle.std.specs.Prelude.{◌≡◌, ℕ, ◌+◌, ◌<◌, ◌≤◌, [], ◌∷◌};
-ghost use Rattle.machine.specs.State.{fresh_cell, put_triple, remove, send, to_all, with_cell, with_held, with_reads, with_report, with_stage, with_written};
-ghost use Rattle.machine.specs.Calls.{Names};
-ghost use Rattle.tables.specs.View.{view, vote, with_no_votes, with_copy, at_opening, Room, Sound, Becomes, SendsEach};
+ghost use Rattle.std.specs.Prelude.{◌≡◌, ◌+◌, ◌<◌, ◌≤◌, [], ◌∷◌};
+ghost use Rattle.machine.specs.State.{fresh_cell, put_triple, remove, send, with_cell, with_held, with_reads, with_report, with_stage, with_written};
+ghost use Rattle.machine.specs.Calls.{Names, at_opening};
+ghost use Rattle.tables.specs.View.{view, vote, with_no_votes, with_copy, Room, Sound, Becomes, SendsEach};
 
 use crate::lent::{Tables, Vote};
 use grid::{fill, pair_index, put, triple_index, vote_index, votes_index};

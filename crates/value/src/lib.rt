@@ -1,8 +1,8 @@
 //! Kinds of value that a register can hold.
 #![tactic(auto)]
 
-ghost use Rattle.std.specs.Prelude.{◌≡◌, ℕ, ◌<◌, ◌≤◌, if◌then◌else◌, Decides, length, slice_index_or};
-ghost use Rattle.station_set.specs.Sets.{has, with_station};
+ghost use Rattle.std.specs.Prelude.{◌≡◌, ℕ, ◌<◌, ◌≤◌, Decides, length, slice_index_or};
+ghost use Rattle.station_set.specs.Sets.{has};
 ghost use Rattle.value.specs.Holders.{keeps, holders_of};
 
 use station_set::{ROOM, those};

@@ -5,7 +5,8 @@ use Rattle.std.proofs.lemmas.List.{get_or_default}
 use Rattle.grid.proofs.Entries.{line_is}
 use Rattle.machine.specs.declared.station.Station.{Station}
 use Rattle.machine.specs.State.{put}
-use Rattle.tables.specs.View.{view, first_station}
+use Rattle.machine.specs.Calls.{first_station}
+use Rattle.tables.specs.View.{view}
 use Rattle.tables.proofs.Shown.{line-put, put_stage}
 use Rattle.tables.proofs.Parts.{stations_become}
 use Rattle.tables.proofs.lent.Tables.set_stage.Goals as goal
