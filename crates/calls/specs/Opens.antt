@@ -5,13 +5,13 @@ use Rattle.decline.specs.declared.Decline.{Decline}
 use Rattle.machine.specs.declared.figures.Figures.{Figures}
 use Rattle.machine.specs.declared.call.Opening.{Opening}
 use Rattle.machine.specs.State.{Setting}
-use Rattle.machine.specs.Calls.{Lent, open_decline, figures_of, opened}
+use Rattle.machine.specs.Calls.{Lengths, open_decline, figures_of, opened}
 use Rattle.tables.specs.declared.lent.Tables.{Tables}
 use Rattle.tables.specs.View.{Becomes}
 use Rattle.calls.specs.Follows.{permitted}
 
 -- how many elements each lent table has
-abbrev pub lengths : {V : Type 0} → Tables V → Lent
+abbrev pub lengths : {V : Type 0} → Tables V → Lengths
 lengths t =
     record {
       messages = length t.pool.slots.now;

@@ -1,6 +1,6 @@
 //! Beginning an operation.
 ghost use Rattle.std.specs.Prelude.{◌+◌, ◌*◌, ◌<◌, ◌≤◌};
-ghost use Rattle.machine.specs.Calls.{begin_write as start_write, write_outcome, begin_read as start_read, read_outcome};
+ghost use Rattle.machine.specs.Calls.{begin_write, write_outcome, begin_read, read_outcome};
 ghost use Rattle.tables.specs.View.{view, Sound, Becomes};
 ghost use Rattle.calls.specs.Follows.{Follows};
 
@@ -18,7 +18,7 @@ fn start_write<V: Copy>(tables: &mut Tables<V>, figures: &Figures<V>, i: usize, 
     requires station { i < figures.now.stations }
     requires numbers { ((view figures.now tables.old).station i).written < figures.now.highest }
     requires room { tables.old.pool.waiting + (3 * figures.now.stations + 1) ≤ figures.now.places }
-    ensures { Becomes figures.now tables.old tables.new (start_write i value (view figures.now tables.old)) }
+    ensures { Becomes figures.now tables.old tables.new (begin_write i value (view figures.now tables.old)) }
 {
     let number = tables.station(figures, i).written + 1;
     tables.set_written(figures, i, number);
@@ -41,7 +41,7 @@ fn start_read<V: Copy>(tables: &mut Tables<V>, figures: &Figures<V>, i: usize, j
     requires register { j < figures.now.stations }
     requires numbers { (view figures.now tables.old).reads i j < figures.now.highest }
     requires room { tables.old.pool.waiting + (3 * figures.now.stations + 1) ≤ figures.now.places }
-    ensures { Becomes figures.now tables.old tables.new (start_read i j (view figures.now tables.old)) }
+    ensures { Becomes figures.now tables.old tables.new (begin_read i j (view figures.now tables.old)) }
 {
     let read = tables.read_number(figures, i, j) + 1;
     tables.set_read_number(figures, i, j, read);

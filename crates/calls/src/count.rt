@@ -1,13 +1,13 @@
 //! Counting the messages that wait.
-ghost use Rattle.std.specs.Prelude.{◌≡◌, length, count_by};
-ghost use Rattle.machine.specs.Calls.{Names, takeable};
+ghost use Rattle.std.specs.Prelude.{◌≡◌};
+ghost use Rattle.machine.specs.Calls.{Names, takeable, counts};
 ghost use Rattle.tables.specs.View.{view, Sound};
 
 use crate::act::is_ahead;
 use crate::message::{receiver, sender};
+use crate::permit::is_faulty;
 use machine::figures::Figures;
 use machine::message::Message;
-use station_set::contains;
 use tables::lent::Tables;
 
 // Whether a message can be taken between correct stations.
@@ -16,15 +16,15 @@ fn is_takeable<V: Copy>(tables: &Tables<V>, figures: &Figures<V>, message: &Mess
     requires named { Names figures.now.stations message.now }
     ensures { result ≡ takeable (view figures.now tables.now) message.now }
 {
-    !contains(figures.faulty, sender(message))
-        && !contains(figures.faulty, receiver(message))
+    !is_faulty(figures, sender(message))
+        && !is_faulty(figures, receiver(message))
         && !is_ahead(tables, figures, message)
 }
 
 // How many messages wait, and how many of them can be taken between correct stations.
 pub fn count<V: Copy>(tables: &Tables<V>, figures: &Figures<V>) -> (usize, usize)
     requires { Sound figures.now tables.now }
-    ensures { result ≡ (length (view figures.now tables.now).pool, count_by (takeable (view figures.now tables.now)) (view figures.now tables.now).pool) }
+    ensures { result ≡ counts (view figures.now tables.now) }
 {
     let mut waiting = 0;
     let mut takeable = 0;

@@ -4,12 +4,11 @@ ghost use Rattle.machine.specs.Calls.{within, uses_register, forged, forge_outco
 ghost use Rattle.tables.specs.View.{view, Sound};
 ghost use Rattle.calls.specs.Follows.{Follows, Forgeable};
 
-use crate::permit::{has_places, require};
+use crate::permit::{has_places, is_faulty, require};
 use decline::Decline;
 use machine::call::{Answer, Forgery};
 use machine::figures::Figures;
 use machine::message::Message;
-use station_set::contains;
 use tables::lent::Tables;
 
 fn within(low: u64, high: u64, x: u64) -> bool
@@ -112,7 +111,7 @@ fn permit_forge<V: Copy>(
         Decline::NoSuchStation,
     )?;
     require(
-        contains(figures.faulty, forgery.sender as usize),
+        is_faulty(figures, forgery.sender as usize),
         Decline::WrongSide,
     )?;
     let message = forged(figures.highest, forgery).ok_or(Decline::BadForgery)?;

@@ -2,11 +2,11 @@
 //! exactly the machine's state; one that is declined leaves every table as it was.
 #![tactic(auto)]
 
-pub mod act;
+mod act;
 pub mod begin;
 pub mod count;
 pub mod forge;
-pub mod message;
+mod message;
 pub mod open;
-pub mod permit;
+mod permit;
 pub mod take;

@@ -1,5 +1,6 @@
 //! Whether a call is permitted: the reasons against it, in their order.
 ghost use Rattle.std.specs.Prelude.{◌≡◌, ◌+◌, ◌*◌, ◌<◌, if◌then◌else◌, Ok, Err};
+ghost use Rattle.station_set.specs.Sets.{has};
 ghost use Rattle.machine.specs.Calls.{has_places, is_idle, write_decline, read_decline};
 ghost use Rattle.tables.specs.View.{view, Sound};
 ghost use Rattle.calls.specs.Follows.{permitted};
@@ -17,7 +18,13 @@ pub(crate) fn require(condition: bool, otherwise: Decline) -> Result<(), Decline
     if condition { Ok(()) } else { Err(otherwise) }
 }
 
-pub(crate) fn is_idle<V: Copy>(stage: Stage<V>) -> bool
+pub(crate) fn is_faulty<V: Copy>(figures: &Figures<V>, k: usize) -> bool
+    ensures { result ≡ has figures.now.faulty k }
+{
+    contains(figures.faulty, k)
+}
+
+fn is_idle<V: Copy>(stage: Stage<V>) -> bool
     ensures { result ≡ is_idle stage }
 {
     matches!(stage, Stage::Idle)
@@ -42,7 +49,7 @@ pub(crate) fn permit_write<V: Copy>(
 {
     require(station < figures.stations as u64, Decline::NoSuchStation)?;
     let i = station as usize;
-    require(!contains(figures.faulty, i), Decline::WrongSide)?;
+    require(!is_faulty(figures, i), Decline::WrongSide)?;
     let record = tables.station(figures, i);
     require(is_idle(record.stage), Decline::NotIdle)?;
     require(record.written < figures.highest, Decline::NumbersUsedUp)?;
@@ -64,7 +71,7 @@ pub(crate) fn permit_read<V: Copy>(
     require(station < n && register < n, Decline::NoSuchStation)?;
     let i = station as usize;
     let j = register as usize;
-    require(!contains(figures.faulty, i), Decline::WrongSide)?;
+    require(!is_faulty(figures, i), Decline::WrongSide)?;
     require(is_idle(tables.station(figures, i).stage), Decline::NotIdle)?;
     require(
         tables.read_number(figures, i, j) < figures.highest,

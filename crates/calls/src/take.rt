@@ -6,12 +6,11 @@ ghost use Rattle.calls.specs.Follows.{Follows};
 
 use crate::act::{act, is_ahead};
 use crate::message::{receiver, sender};
-use crate::permit::{has_places, require};
+use crate::permit::{has_places, is_faulty, require};
 use decline::Decline;
 use machine::call::Answer;
 use machine::figures::Figures;
 use quorum::QuorumSystem;
-use station_set::contains;
 use tables::lent::Tables;
 use value::Value;
 
@@ -30,7 +29,7 @@ pub fn take<V: Value, S: QuorumSystem>(
     let message = tables
         .message(figures, place)
         .ok_or(Decline::NoSuchMessage)?;
-    if contains(figures.faulty, receiver(&message)) {
+    if is_faulty(figures, receiver(&message)) {
         tables.remove(figures, place);
         return Ok(Answer::Done);
     }
@@ -54,7 +53,7 @@ pub fn withdraw<V: Copy>(
         .message(figures, place)
         .ok_or(Decline::NoSuchMessage)?;
     require(
-        contains(figures.faulty, sender(&message)),
+        is_faulty(figures, sender(&message)),
         Decline::WrongSide,
     )?;
     tables.remove(figures, place);

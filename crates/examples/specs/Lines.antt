@@ -10,7 +10,7 @@ use Rattle.machine.specs.declared.call.Call.TheVariants.{Take}
 use Rattle.machine.specs.declared.call.Answer.{Answer}
 use Rattle.machine.specs.declared.call.Answer.TheVariants.{Done, WriteEnded, ReadEnded, Counted}
 use Rattle.machine.specs.State.{Setting, State, number}
-use Rattle.machine.specs.Calls.{Lent, Bench, spelled, call_on}
+use Rattle.machine.specs.Calls.{Lengths, Bench, spelled, call_on}
 use Rattle.machine.specs.Runs.{is_done}
 use Rattle.examples.specs.Systems.{System, setting, counting}
 
@@ -33,7 +33,7 @@ said (Err reason) = declined (number_of reason)
 pub data Line : Type 0 where
   -- from here on this system is handed in, or these tables are lent
   hands : System → Line
-  lends : Lent → Line
+  lends : Lengths → Line
   -- a call, and what it says
   calls : Call ℕ → Said → Line
   -- the take of the first waiting message that is the same as this one, and what it says
@@ -82,7 +82,7 @@ pub record Delivery : Type 0 where
   pub bench : Bench ℕ
   pub messages : List (Message ℕ)
 
-abbrev pub deliver : Lent → Setting ℕ → Bench ℕ → List (Message ℕ) → Delivery
+abbrev pub deliver : Lengths → Setting ℕ → Bench ℕ → List (Message ℕ) → Delivery
 deliver t c b [] = record { bench = b; messages = [] }
 deliver t c b (m ∷ rest) =
     let reply = call_on c t b (Take (place_in m b)) in
@@ -90,7 +90,7 @@ deliver t c b (m ∷ rest) =
     record { bench = later.bench; messages = cond (is_done (Some reply.answer)) (m ∷ later.messages) [] }
 
 -- the lines as the machine writes them: what calls say and what looks show is what its definitions give
-abbrev pub play : Lent → Setting ℕ → Bench ℕ → List Line → List Line
+abbrev pub play : Lengths → Setting ℕ → Bench ℕ → List Line → List Line
 play t c b [] = []
 play t c b (hands system ∷ rest) = hands system ∷ play t (setting system) b rest
 play t c b (lends tables ∷ rest) = lends tables ∷ play tables c b rest
@@ -108,7 +108,7 @@ play t c b (stage i at ∷ rest) = look b (λ s. stage i (s.station i).stage) �
 play t c b (held i k j x ∷ rest) = look b (λ s. held i k j (s.held i k j)) ∷ play t c b rest
 
 -- tables that suffice for every bench
-abbrev pub ample : Lent
+abbrev pub ample : Lengths
 ample = record { messages = 4000; votes = 2000; held = 1000; stations = 10; copies = 100; reads = 100; reports = 100 }
 
 abbrev pub played : List Line → List Line

@@ -3,7 +3,7 @@ use Rattle.std.specs.Prelude.{ℕ, List, [], ◌∷◌}
 use Rattle.machine.specs.declared.message.Message.{Message}
 use Rattle.machine.specs.declared.message.Message.TheVariants.{Init, Echo, Ready, WriteDone, Read, State as StateOf, CatchUp, CatchUpDone}
 use Rattle.machine.specs.declared.call.Call.TheVariants.{Open, BeginWrite, BeginRead, Take, Forge, Withdraw, Count}
-use Rattle.machine.specs.Calls.{Lent}
+use Rattle.machine.specs.Calls.{Lengths}
 use Rattle.examples.specs.Systems.{counting}
 use Rattle.examples.specs.Lines.{Said, done, write_ended, read_ended, counted, declined, Line, hands, lends, calls, takes, delivers, closed, waiting, fields}
 use Rattle.examples.specs.Beginnings.{opening, opens, forges}
@@ -43,7 +43,7 @@ opening_limits =
     ∷ []
 
 -- lent tables by their lengths
-abbrev pub tables : (messages votes held stations copies reads reports : ℕ) → Lent
+abbrev pub tables : (messages votes held stations copies reads reports : ℕ) → Lengths
 tables messages votes held stations copies reads reports =
     record { messages = messages; votes = votes; held = held; stations = stations; copies = copies; reads = reads; reports = reports }
 

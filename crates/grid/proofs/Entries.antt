@@ -4,7 +4,12 @@ use Rattle.std.proofs.lemmas.Nat.{mul-add-lt, div-mul-add, mod-mul-add}
 use Rattle.std.proofs.lemmas.Bool.{and_parts, and_from, ltb-true, lt-ltb, eqb-true, eq-eqb, both_ways, false≢true}
 use Rattle.std.proofs.lemmas.List.{get_or-set_same, get_or-set_other}
 use Rattle.grid.specs.Lent.{Filled}
-use Rattle.grid.specs.Grid.{row_index, entry, entries, each_below, shown, line, pairs, triples, halves}
+use Rattle.grid.specs.Grid.{row_index, entry, each_below, shown, line, pairs, triples, halves}
+
+-- how many entries h rows have, with as many columns after one another
+abbrev pub entries : ℕ → ℕ → List ℕ → ℕ
+entries n h [] = h
+entries n h (j ∷ columns) = entries n (h * n) columns
 
 pub row_below : (n h i j : ℕ) → i < h → j < n → row_index n i j < h * n
 row_below n h i j p q = omega (arith, mul-add-lt i n j h p q)
@@ -114,14 +119,6 @@ shown_is d h n xs i is p q = ap (λ b. cond b (get_or xs (entry n i is) d) d) (a
 
 pub line_is : {X : Type 0} (d : X) (n : ℕ) (xs : List X) (i : ℕ) → i < n → line d n xs i ≡ get_or xs i d
 line_is d n xs i p = shown_is d n n xs i [] p refl
-
-pub pairs_is : {X : Type 0} (d : X) (n : ℕ) (xs : List X) (i j : ℕ) → i < n → j < n → pairs d n xs i j ≡ get_or xs (row_index n i j) d
-pairs_is d n xs i j p q = shown_is d n n xs i (j ∷ []) p (and-true (nat_lt j n) ∙ lt-ltb j n q)
-
-pub triples_is : {X : Type 0} (d : X) (n : ℕ) (xs : List X) (i j k : ℕ) → i < n → j < n → k < n
-    → triples d n xs i j k ≡ get_or xs (row_index n (row_index n i j) k) d
-triples_is d n xs i j k p q r =
-    shown_is d n n xs i (j ∷ k ∷ []) p (and_from (nat_lt j n) (nat_lt k n && true) (lt-ltb j n q) (and-true (nat_lt k n) ∙ lt-ltb k n r))
 
 pub halves_is : {X : Type 0} (d : X) (n : ℕ) (xs : List X) (half i j k : ℕ) → half < 2 → i < n → j < n → k < n
     → halves d n xs half i j k ≡ get_or xs (row_index n (row_index n half i) j * n + k) d

@@ -10,11 +10,6 @@ abbrev pub entry : ℕ → ℕ → List ℕ → ℕ
 entry n i [] = i
 entry n i (j ∷ columns) = entry n (row_index n i j) columns
 
--- how many entries h rows have, with as many columns after one another
-abbrev pub entries : ℕ → ℕ → List ℕ → ℕ
-entries n h [] = h
-entries n h (j ∷ columns) = entries n (h * n) columns
-
 abbrev pub each_below : ℕ → List ℕ → Bool
 each_below n [] = true
 each_below n (j ∷ columns) = nat_lt j n && each_below n columns

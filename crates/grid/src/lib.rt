@@ -5,10 +5,10 @@ ghost use Rattle.std.specs.Prelude.{◌≡◌, ◌+◌, ◌*◌, ◌<◌, ◌≤
 ghost use Rattle.grid.specs.Grid.{row_index};
 ghost use Rattle.grid.specs.Lent.{Filled};
 
-// The entry of column j in row i, where a row has n columns.
+// The entry of column j in row i, where a row has n columns. The votes have the most rows: 2 · 10 · 10.
 fn row_index(n: usize, i: usize, j: usize) -> usize
     requires columns { n ≤ 10 }
-    requires row { i < 1000 }
+    requires row { i < 200 }
     requires column { j < n }
     ensures { result ≡ row_index n i j }
 {
@@ -63,7 +63,7 @@ pub fn vote_index(n: usize, half: usize, i: usize, j: usize, k: usize) -> usize
     votes_index(n, half, i, j) + k
 }
 
-// Writes one entry.
+// Writes one entry. In a function of its own, so that it serves entries of every type alike.
 pub fn put<T: Copy>(xs: &mut [T], at: usize, x: T)
     requires { at < length xs.old }
     ensures { xs.new ≡ slice_set xs.old at x }

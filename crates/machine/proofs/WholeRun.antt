@@ -11,7 +11,7 @@ use Rattle.machine.specs.declared.call.Answer.{Answer}
 use Rattle.machine.specs.declared.figures.Figures.{Figures}
 use Rattle.machine.specs.State.{Setting, Lawful, State, number}
 use Rattle.machine.specs.declared.call.Opening.{Opening}
-use Rattle.machine.specs.Calls.{sender, receiver, ahead, is_idle, Lent, open_reasons, open_decline, opened}
+use Rattle.machine.specs.Calls.{sender, receiver, ahead, is_idle, Lengths, open_reasons, open_decline, opened}
 use Rattle.machine.specs.Runs.{Run, after, at_end, call_at, answer_at, is_done, is_write_of, is_read_of, begins_operation, ends_operation, WriteBegins, AtRest}
 use Rattle.machine.specs.Properties.{Agreement, Validity, Totality, Delivery, Broadcast, BroadcastProperties}
 use Rattle.machine.specs.Order.{Order, Rest, OrderAndRest}
@@ -185,7 +185,7 @@ module _ {V : Type 0} (R : Run V) (L : Lawful R.setting) (ok : R.setting.system.
       (ap (λ (s : State V). (s.station i).stage) (end_is R L ok) ∙ idle, λ b t. ended i b e idle t)
 
 -- an open that is not declined was handed an allowed faulty set
-faulty_allowed : {V : Type 0} (c : Setting V) (t : Lent) (o : Opening V) → open_decline c t o ≡ None → c.system.allowed o.faulty ≡ true
+faulty_allowed : {V : Type 0} (c : Setting V) (t : Lengths) (o : Opening V) → open_decline c t o ≡ None → c.system.allowed o.faulty ≡ true
 faulty_allowed c t o e = not-false _ (unfit (open_reasons c t o) e 1 _ refl)
 
 pub order_and_rest : {V : Type 0} (c : Setting V) → Lawful c → OrderAndRest c

@@ -273,8 +273,12 @@ between_correct s m = is_correct s (sender m) && is_correct s (receiver m)
 abbrev pub takeable : {V : Type 0} → State V → Message V → Bool
 takeable s m = between_correct s m && not (ahead s m)
 
+-- how many messages wait, and how many of them can be taken between correct stations
+abbrev pub counts : {V : Type 0} → State V → ℕ × ℕ
+counts s = (length s.pool, count_by (takeable s) s.pool)
+
 abbrev pub count : {V : Type 0} → State V → Result (Answer V) Decline
-count s = Ok (Counted (length s.pool) (count_by (takeable s) s.pool))
+count s = Ok (Counted (counts s).0 (counts s).1)
 
 -- One call on an open bench
 
@@ -299,7 +303,7 @@ answers c s (call ∷ calls) = (step c s call).answer ∷ answers c (step c s ca
 -- Open
 
 -- how many elements each lent table has
-pub record Lent : Type 0 where
+pub record Lengths : Type 0 where
   pub messages : ℕ
   pub votes : ℕ
   pub held : ℕ
@@ -309,7 +313,7 @@ pub record Lent : Type 0 where
   pub reports : ℕ
 
 -- the tables have room for n stations and p messages
-abbrev pub suffices : Lent → ℕ → ℕ → Bool
+abbrev pub suffices : Lengths → ℕ → ℕ → Bool
 suffices t n p =
     nat_le p t.messages
     && (nat_le (2 * (n * n * n)) t.votes
@@ -317,15 +321,15 @@ suffices t n p =
     && (nat_le n t.stations
     && (nat_le (n * n) t.copies && (nat_le (n * n) t.reads && nat_le (n * n) t.reports)))))
 
-abbrev pub in_limits : Lent → ℕ → ℕ → ℕ → Bool
+abbrev pub in_limits : Lengths → ℕ → ℕ → ℕ → Bool
 in_limits t n highest places =
     within 1 10 n && (within 1 999999999999 highest && (within (3 * n + 1) 4000 places && suffices t n places))
 
-abbrev pub open_reasons : {V : Type 0} → Setting V → Lent → Opening V → List (Bool × Decline)
+abbrev pub open_reasons : {V : Type 0} → Setting V → Lengths → Opening V → List (Bool × Decline)
 open_reasons c t o =
     (not (in_limits t c.system.stations o.highest o.places), OutsideLimits) ∷ (not (c.system.allowed o.faulty), NotAllowed) ∷ []
 
-abbrev pub open_decline : {V : Type 0} → Setting V → Lent → Opening V → Option Decline
+abbrev pub open_decline : {V : Type 0} → Setting V → Lengths → Opening V → Option Decline
 open_decline c t o = first_that_fits (open_reasons c t o)
 
 -- what opening fixes
@@ -365,7 +369,7 @@ abbrev pub open_reply : {V : Type 0} → Setting V → Opening V → Option Decl
 open_reply c o None = record { bench = Some (opened c o); answer = Ok Done }
 open_reply c o (Some reason) = record { bench = None; answer = Err reason }
 
-abbrev pub closed_reply : {V : Type 0} → Setting V → Lent → Call V → Reply V
+abbrev pub closed_reply : {V : Type 0} → Setting V → Lengths → Call V → Reply V
 closed_reply c t (Open o) = open_reply c o (open_decline c t o)
 closed_reply c t (BeginWrite i v) = record { bench = None; answer = Err Closed }
 closed_reply c t (BeginRead i j) = record { bench = None; answer = Err Closed }
@@ -375,6 +379,6 @@ closed_reply c t (Withdraw place) = record { bench = None; answer = Err Closed }
 closed_reply c t Count = record { bench = None; answer = Err Closed }
 
 -- a call on a bench, closed or open
-abbrev pub call_on : {V : Type 0} → Setting V → Lent → Bench V → Call V → Reply V
+abbrev pub call_on : {V : Type 0} → Setting V → Lengths → Bench V → Call V → Reply V
 call_on c t None call = closed_reply c t call
 call_on c t (Some s) call = record { bench = Some (step c s call).state; answer = (step c s call).answer }

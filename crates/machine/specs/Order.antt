@@ -6,7 +6,7 @@ use Rattle.machine.specs.declared.call.Opening.{Opening}
 use Rattle.machine.specs.declared.call.Call.{Call}
 use Rattle.machine.specs.declared.call.Answer.TheVariants.{WriteEnded, ReadEnded}
 use Rattle.machine.specs.State.{Setting}
-use Rattle.machine.specs.Calls.{Lent, open_decline}
+use Rattle.machine.specs.Calls.{Lengths, open_decline}
 use Rattle.machine.specs.Runs.{Run, at_end, answer_at, Correct, Takes, WriteBegins, CompletedWrite, CompletedRead, begins_operation, ends_operation, AtRest}
 use Rattle.machine.specs.Properties.{Agreement, Validity}
 
@@ -82,5 +82,5 @@ module _ {V : Type 0} (R : Run V) where
 -- Order and rest of every list of calls after an open that was not declined.
 abbrev pub OrderAndRest : {V : Type 0} → Setting V → Type 0
 OrderAndRest {V} c =
-    (t : Lent) (o : Opening V) (calls : List (Call V)) → open_decline c t o ≡ None
+    (t : Lengths) (o : Opening V) (calls : List (Call V)) → open_decline c t o ≡ None
     → Order (record { setting = c; opening = o; calls = calls }) × Rest (record { setting = c; opening = o; calls = calls })

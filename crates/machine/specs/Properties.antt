@@ -3,7 +3,7 @@ use Rattle.std.specs.Prelude.{◌≡◌, ℕ, ◌<◌, ◌≤◌, List, None}
 use Rattle.machine.specs.declared.call.Opening.{Opening}
 use Rattle.machine.specs.declared.call.Call.{Call}
 use Rattle.machine.specs.State.{Setting, number}
-use Rattle.machine.specs.Calls.{Lent, open_decline}
+use Rattle.machine.specs.Calls.{Lengths, open_decline}
 use Rattle.machine.specs.Runs.{Run, at_end, Correct, WriteBegins, Takes, AtRest}
 
 module _ {V : Type 0} (R : Run V) where
@@ -34,5 +34,5 @@ module _ {V : Type 0} (R : Run V) where
 -- They hold of every list of calls after an open that was not declined.
 abbrev pub BroadcastProperties : {V : Type 0} → Setting V → Type 0
 BroadcastProperties {V} c =
-    (t : Lent) (o : Opening V) (calls : List (Call V)) → open_decline c t o ≡ None
+    (t : Lengths) (o : Opening V) (calls : List (Call V)) → open_decline c t o ≡ None
     → Broadcast (record { setting = c; opening = o; calls = calls })

@@ -18,7 +18,7 @@ use tables::lent::Tables;
 use value::Value;
 
 // Station i notes its copy of register j, and asks every station to tell when it is as far.
-pub fn start_catching<V: Copy>(tables: &mut Tables<V>, figures: &Figures<V>, i: usize, j: usize)
+fn start_catching<V: Copy>(tables: &mut Tables<V>, figures: &Figures<V>, i: usize, j: usize)
     requires sound { Sound figures.now tables.old }
     requires station { i < figures.now.stations }
     requires register { j < figures.now.stations }

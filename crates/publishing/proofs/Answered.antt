@@ -1,5 +1,5 @@
 -- Stations that await a number are answered one after the other, and at the end all of them are.
-use Rattle.std.proofs.Common.{◌≡◌, ℕ, suc, ◌+◌, ◌≤◌, Bool, true, false, cond, ◌&&◌, eqb, nat_eq, nat_lt, List, [], ◌∷◌, ◌++◌, map, filter, refl, sym, ap, ap₂, ◌∙◌, arith, append-nil, append_assoc}
+use Rattle.std.proofs.Common.{◌≡◌, ℕ, suc, ◌+◌, ◌≤◌, Bool, true, false, cond, ◌&&◌, ◌==◌, eqb, nat_eq, nat_lt, List, [], ◌∷◌, ◌++◌, map, filter, refl, sym, ap, ap₂, ◌∙◌, arith, append-nil, append_assoc}
 use Rattle.std.specs.List.{range_with_len}
 use Rattle.std.proofs.Math.Path.{fun_ext}
 use Rattle.std.proofs.lemmas.Bool.{ltb-true}
@@ -16,7 +16,14 @@ use Rattle.machine.specs.State.{State, number, put_pair, put_triple, send, with_
 use Rattle.machine.specs.Publishing.{held_answers, release, take_value}
 use Rattle.tables.specs.declared.lent.Tables.{Tables}
 use Rattle.tables.specs.View.{view}
-use Rattle.publishing.specs.Answering.{answer_one, answer_first, release_first}
+use Rattle.publishing.specs.Answering.{answer_one, answer_each}
+
+-- those of the stations below m are answered that await it
+abbrev pub release_first : ℕ → ℕ → ℕ → ℕ → (ℕ → ℕ → ℕ → ℕ) → ℕ → ℕ → ℕ → ℕ
+release_first m i j x held a k b = cond (nat_lt k m && (a == i && (b == j && held a k b == x))) 0 (held a k b)
+
+abbrev pub answer_first : {V : Type 0} → ℕ → ℕ → ℕ → ℕ → State V → State V
+answer_first m i j x s = send (held_answers m (λ k. s.held i k j) i j x) (with_held (release_first m i j x s.held) s)
 
 one_more : (n : ℕ) → range_with_len 0 (n + 1) ≡ range_with_len 0 n ++ n ∷ []
 one_more n =
@@ -75,13 +82,17 @@ none_past n held i j k past = shown_past 0 n n held i (k ∷ j ∷ []) (at (nat_
     at true e = absurd (omega (arith, ltb-true k n e, past))
     at false e = refl
 
--- the value is taken, its owner is told, and then those who awaited it are answered
-pub value_taken : {V : Type 0} (i j x : ℕ) (v : V) (f : Figures V) (t : Tables V) → x ≡ suc (number (view f t) i j)
-    → answer_first f.stations i j x (send (WriteDone i j x ∷ []) (with_cell i j (fresh_cell v x) (view f t))) ≡ take_value i j v (view f t)
-value_taken {V} i j x v f t next =
+-- those below n are all that the tables show
+pub answered_all : {V : Type 0} (i j x : ℕ) (f : Figures V) (t : Tables V) → answer_first f.stations i j x (view f t) ≡ answer_each f.stations i j x (view f t)
+answered_all i j x f t =
     let s = view f t in
+    ap (λ h. send (held_answers f.stations (λ k. s.held i k j) i j x) (with_held h s)) (release_all i j x f.stations s.held (λ k past. none_past f.stations t.held.now i j k past))
+
+-- the value is taken, its owner is told, and then those who awaited it are answered
+pub value_taken : {V : Type 0} (n i j x : ℕ) (v : V) (s : State V) → n ≡ s.figures.stations → x ≡ suc (number s i j)
+    → answer_each n i j x (send (WriteDone i j x ∷ []) (with_cell i j (fresh_cell v x) s)) ≡ take_value i j v s
+value_taken {V} n i j x v s same next =
     let y = suc (number s i j) in
-    ap (λ m. answer_first f.stations i j m (send (WriteDone i j m ∷ []) (with_cell i j (fresh_cell v m) s))) next
-    ∙ ap₂ (λ h l. record s { cell = put_pair i j (fresh_cell v y) s.cell; held = h; pool = l })
-    (release_all i j y f.stations s.held (λ k past. none_past f.stations t.held.now i j k past))
-    (append_assoc s.pool (WriteDone i j y ∷ []) (held_answers f.stations (λ k. s.held i k j) i j y))
+    ap₂ (λ n m. answer_each n i j m (send (WriteDone i j m ∷ []) (with_cell i j (fresh_cell v m) s))) same next
+    ∙ ap (λ l. record s { cell = put_pair i j (fresh_cell v y) s.cell; held = release i j y s.held; pool = l })
+    (append_assoc s.pool (WriteDone i j y ∷ []) (held_answers s.figures.stations (λ k. s.held i k j) i j y))

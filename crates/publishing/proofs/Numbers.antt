@@ -3,12 +3,12 @@ use Rattle.std.proofs.Common.{◌≡◌, ℕ, ap, refl, not, ◌&&◌}
 use Rattle.std.proofs.lemmas.Bool.{cond_both}
 use Rattle.machine.specs.State.{Setting, Cell, State, number, with_cell}
 use Rattle.machine.specs.Publishing.{mark_readied, ready_voters, send_ready, join_readies}
-use Rattle.tables.specs.declared.lent.Vote.{Vote}
-use Rattle.tables.specs.declared.lent.Vote.TheVariants.{Echo, Ready}
+use Rattle.tables.specs.declared.lent.VoteKind.{VoteKind}
+use Rattle.tables.specs.declared.lent.VoteKind.TheVariants.{Echo, Ready}
 use Rattle.tables.specs.View.{vote}
 use Rattle.tables.proofs.Chain.{put_pair_here}
 
-pub number_voted : {V : Type 0} (kind : Vote) (i j k : ℕ) (v : V) (s : State V) → number (with_cell i j (vote kind k v (s.cell i j)) s) i j ≡ number s i j
+pub number_voted : {V : Type 0} (kind : VoteKind) (i j k : ℕ) (v : V) (s : State V) → number (with_cell i j (vote kind k v (s.cell i j)) s) i j ≡ number s i j
 number_voted {V} Echo i j k v s = ap (λ (c : Cell V). c.copy.number) (put_pair_here i j (vote Echo k v (s.cell i j)) s.cell)
 number_voted {V} Ready i j k v s = ap (λ (c : Cell V). c.copy.number) (put_pair_here i j (vote Ready k v (s.cell i j)) s.cell)
 

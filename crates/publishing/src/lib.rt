@@ -2,28 +2,25 @@
 //! function leaves the tables that the machine's rule of its name gives.
 #![tactic(auto)]
 
-ghost use Rattle.std.specs.Prelude.{◌≡◌, suc, ◌+◌, ◌*◌, ◌<◌, ◌≤◌};
-ghost use Rattle.machine.specs.State.{setting, number};
+ghost use Rattle.std.specs.Prelude.{◌≡◌, ◌+◌, ◌*◌, ◌<◌, ◌≤◌};
+ghost use Rattle.machine.specs.State.{setting};
 ghost use Rattle.machine.specs.Operations.{test_freshness};
 ghost use Rattle.machine.specs.Publishing.{send_echo, send_ready, on_init, count_echoes, on_echo, join_readies, take_value, count_readies, on_ready};
 ghost use Rattle.tables.specs.View.{view, Sound, Becomes};
-ghost use Rattle.publishing.specs.Answering.{answer_one, answer_first};
+ghost use Rattle.publishing.specs.Next.{IsNext};
+ghost use Rattle.publishing.specs.Answering.{answer_one, answer_each};
+
+pub mod publication;
+
+pub use publication::Publication;
 
 use machine::figures::Figures;
 use machine::message::Message;
 use machine::station::RegisterCopy;
 use operations::test_freshness;
 use quorum::QuorumSystem;
-use tables::lent::{Tables, Vote};
+use tables::lent::{Tables, VoteKind};
 use value::Value;
-
-// One write of a register on its way to the copies: what INIT, ECHO and READY carry.
-#[derive(Clone, Copy, PartialEq, Eq, Debug)]
-pub struct Publication<V> {
-    pub register: usize,
-    pub number: u64,
-    pub value: V,
-}
 
 // Station i sends ECHO to all.
 fn send_echo<V: Copy>(
@@ -35,7 +32,7 @@ fn send_echo<V: Copy>(
     requires sound { Sound figures.now tables.old }
     requires station { i < figures.now.stations }
     requires register { publication.register < figures.now.stations }
-    requires next { publication.number ≡ suc (number (view figures.now tables.old) i publication.register) }
+    requires next { IsNext figures.now tables.old i publication }
     requires room { tables.old.pool.waiting + figures.now.stations ≤ figures.now.places }
     ensures shows { Becomes figures.now tables.old tables.new (send_echo i publication.register publication.value (view figures.now tables.old)) }
     ensures sent { tables.new.pool.waiting ≡ tables.old.pool.waiting + figures.now.stations }
@@ -77,7 +74,7 @@ fn send_ready<V: Copy>(
     requires sound { Sound figures.now tables.old }
     requires station { i < figures.now.stations }
     requires register { publication.register < figures.now.stations }
-    requires next { publication.number ≡ suc (number (view figures.now tables.old) i publication.register) }
+    requires next { IsNext figures.now tables.old i publication }
     requires room { tables.old.pool.waiting + figures.now.stations ≤ figures.now.places }
     ensures shows { Becomes figures.now tables.old tables.new (send_ready i publication.register publication.value (view figures.now tables.old)) }
     ensures sent { tables.new.pool.waiting ≡ tables.old.pool.waiting + figures.now.stations }
@@ -119,7 +116,7 @@ pub fn on_init<V: Copy>(
     requires sound { Sound figures.now tables.old }
     requires station { i < figures.now.stations }
     requires register { publication.register < figures.now.stations }
-    requires next { publication.number ≡ suc (number (view figures.now tables.old) i publication.register) }
+    requires next { IsNext figures.now tables.old i publication }
     requires room { tables.old.pool.waiting + figures.now.stations ≤ figures.now.places }
     ensures shows { Becomes figures.now tables.old tables.new (on_init i publication.register publication.value (view figures.now tables.old)) }
     ensures sent { tables.new.pool.waiting ≤ tables.old.pool.waiting + figures.now.stations }
@@ -140,7 +137,7 @@ fn count_echoes<V: Value, S: QuorumSystem>(
     requires sound { Sound figures.now tables.old }
     requires station { i < figures.now.stations }
     requires register { publication.register < figures.now.stations }
-    requires next { publication.number ≡ suc (number (view figures.now tables.old) i publication.register) }
+    requires next { IsNext figures.now tables.old i publication }
     requires room { tables.old.pool.waiting + figures.now.stations ≤ figures.now.places }
     ensures shows { Becomes figures.now tables.old tables.new (count_echoes (setting (S.families system.now) V.eq) i publication.register publication.value (view figures.now tables.old)) }
     ensures sent { tables.new.pool.waiting ≤ tables.old.pool.waiting + figures.now.stations }
@@ -151,7 +148,7 @@ fn count_echoes<V: Value, S: QuorumSystem>(
         ..
     } = publication;
     if !tables.copy(figures, i, register).readied
-        && system.is_quorum(tables.voters(figures, Vote::Echo, i, register, value))
+        && system.is_quorum(tables.voters(figures, VoteKind::Echo, i, register, value))
     {
         send_ready(tables, figures, i, publication);
     }
@@ -170,7 +167,7 @@ pub fn on_echo<V: Value, S: QuorumSystem>(
     requires station { i < figures.now.stations }
     requires voter { k < figures.now.stations }
     requires register { publication.register < figures.now.stations }
-    requires next { publication.number ≡ suc (number (view figures.now tables.old) i publication.register) }
+    requires next { IsNext figures.now tables.old i publication }
     requires room { tables.old.pool.waiting + figures.now.stations ≤ figures.now.places }
     ensures shows { Becomes figures.now tables.old tables.new (on_echo (setting (S.families system.now) V.eq) i publication.register k publication.value (view figures.now tables.old)) }
     ensures sent { tables.new.pool.waiting ≤ tables.old.pool.waiting + figures.now.stations }
@@ -180,8 +177,8 @@ pub fn on_echo<V: Value, S: QuorumSystem>(
         value,
         ..
     } = publication;
-    if tables.vote(figures, Vote::Echo, i, register, k).is_none() {
-        tables.set_vote(figures, Vote::Echo, i, register, k, value);
+    if tables.vote(figures, VoteKind::Echo, i, register, k).is_none() {
+        tables.set_vote(figures, VoteKind::Echo, i, register, k, value);
         count_echoes(tables, figures, system, i, publication);
     }
 }
@@ -197,7 +194,7 @@ fn join_readies<V: Value, S: QuorumSystem>(
     requires sound { Sound figures.now tables.old }
     requires station { i < figures.now.stations }
     requires register { publication.register < figures.now.stations }
-    requires next { publication.number ≡ suc (number (view figures.now tables.old) i publication.register) }
+    requires next { IsNext figures.now tables.old i publication }
     requires room { tables.old.pool.waiting + figures.now.stations ≤ figures.now.places }
     ensures shows { Becomes figures.now tables.old tables.new (join_readies (setting (S.families system.now) V.eq) i publication.register publication.value (view figures.now tables.old)) }
     ensures sent { tables.new.pool.waiting ≤ tables.old.pool.waiting + figures.now.stations }
@@ -208,7 +205,7 @@ fn join_readies<V: Value, S: QuorumSystem>(
         ..
     } = publication;
     if !tables.copy(figures, i, register).readied
-        && !system.is_allowed(tables.voters(figures, Vote::Ready, i, register, value))
+        && !system.is_allowed(tables.voters(figures, VoteKind::Ready, i, register, value))
     {
         send_ready(tables, figures, i, publication);
     }
@@ -255,7 +252,7 @@ fn answer_each<V: Copy>(
     requires station { i < figures.now.stations }
     requires register { j < figures.now.stations }
     requires room { tables.old.pool.waiting + figures.now.stations ≤ figures.now.places }
-    ensures shows { Becomes figures.now tables.old tables.new (answer_first figures.now.stations i j number (view figures.now tables.old)) }
+    ensures shows { Becomes figures.now tables.old tables.new (answer_each figures.now.stations i j number (view figures.now tables.old)) }
     ensures sent { tables.new.pool.waiting ≤ tables.old.pool.waiting + figures.now.stations }
 {
     for k in 0..figures.stations {
@@ -273,7 +270,7 @@ fn take_value<V: Copy>(
     requires sound { Sound figures.now tables.old }
     requires station { i < figures.now.stations }
     requires register { publication.register < figures.now.stations }
-    requires next { publication.number ≡ suc (number (view figures.now tables.old) i publication.register) }
+    requires next { IsNext figures.now tables.old i publication }
     requires room { tables.old.pool.waiting + figures.now.stations + 1 ≤ figures.now.places }
     ensures shows { Becomes figures.now tables.old tables.new (take_value i publication.register publication.value (view figures.now tables.old)) }
     ensures sent { tables.new.pool.waiting ≤ tables.old.pool.waiting + figures.now.stations + 1 }
@@ -304,7 +301,7 @@ fn take_and_test<V: Value, S: QuorumSystem>(
     requires sound { Sound figures.now tables.old }
     requires station { i < figures.now.stations }
     requires register { publication.register < figures.now.stations }
-    requires next { publication.number ≡ suc (number (view figures.now tables.old) i publication.register) }
+    requires next { IsNext figures.now tables.old i publication }
     requires room { tables.old.pool.waiting + 2 * figures.now.stations + 1 ≤ figures.now.places }
     ensures shows { Becomes figures.now tables.old tables.new (test_freshness (setting (S.families system.now) V.eq) i publication.register (take_value i publication.register publication.value (view figures.now tables.old))) }
     ensures sent { tables.new.pool.waiting ≤ tables.old.pool.waiting + 2 * figures.now.stations + 1 }
@@ -324,7 +321,7 @@ fn count_readies<V: Value, S: QuorumSystem>(
     requires sound { Sound figures.now tables.old }
     requires station { i < figures.now.stations }
     requires register { publication.register < figures.now.stations }
-    requires next { publication.number ≡ suc (number (view figures.now tables.old) i publication.register) }
+    requires next { IsNext figures.now tables.old i publication }
     requires room { tables.old.pool.waiting + 2 * figures.now.stations + 1 ≤ figures.now.places }
     ensures shows { Becomes figures.now tables.old tables.new (count_readies (setting (S.families system.now) V.eq) i publication.register publication.value (view figures.now tables.old)) }
     ensures sent { tables.new.pool.waiting ≤ tables.old.pool.waiting + 2 * figures.now.stations + 1 }
@@ -334,7 +331,7 @@ fn count_readies<V: Value, S: QuorumSystem>(
         value,
         ..
     } = publication;
-    if system.is_quorum(tables.voters(figures, Vote::Ready, i, register, value)) {
+    if system.is_quorum(tables.voters(figures, VoteKind::Ready, i, register, value)) {
         take_and_test(tables, figures, system, i, publication);
     }
 }
@@ -352,7 +349,7 @@ pub fn on_ready<V: Value, S: QuorumSystem>(
     requires station { i < figures.now.stations }
     requires voter { k < figures.now.stations }
     requires register { publication.register < figures.now.stations }
-    requires next { publication.number ≡ suc (number (view figures.now tables.old) i publication.register) }
+    requires next { IsNext figures.now tables.old i publication }
     requires room { tables.old.pool.waiting + (3 * figures.now.stations + 1) ≤ figures.now.places }
     ensures shows { Becomes figures.now tables.old tables.new (on_ready (setting (S.families system.now) V.eq) i publication.register k publication.value (view figures.now tables.old)) }
     ensures sent { tables.new.pool.waiting ≤ tables.old.pool.waiting + (3 * figures.now.stations + 1) }
@@ -362,8 +359,8 @@ pub fn on_ready<V: Value, S: QuorumSystem>(
         value,
         ..
     } = publication;
-    if tables.vote(figures, Vote::Ready, i, register, k).is_none() {
-        tables.set_vote(figures, Vote::Ready, i, register, k, value);
+    if tables.vote(figures, VoteKind::Ready, i, register, k).is_none() {
+        tables.set_vote(figures, VoteKind::Ready, i, register, k, value);
         join_readies(tables, figures, system, i, publication);
         count_readies(tables, figures, system, i, publication);
     }

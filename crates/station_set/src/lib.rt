@@ -94,7 +94,7 @@ pub fn size(set: u16) -> u32
 }
 
 // The stations below n that pass a test.
-pub fn those<F: Fn(usize) -> bool>(n: usize, passes: F) -> u16
+pub fn set_of<F: Fn(usize) -> bool>(n: usize, passes: F) -> u16
     requires room { n ≤ 16 }
     requires callable { (s : ℕ) → s < n → F.pre passes s }
     ensures { (test : ℕ → Bool) → ((s : ℕ) (b : Bool) → s < n → F.post passes s b → b ≡ test s) → result ≡ set_of n test }

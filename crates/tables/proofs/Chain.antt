@@ -7,7 +7,7 @@ use Rattle.machine.specs.declared.figures.Figures.{Figures}
 use Rattle.machine.specs.declared.station.RegisterCopy.{RegisterCopy}
 use Rattle.machine.specs.State.{Cell, State, put_pair, with_cell}
 use Rattle.tables.specs.declared.lent.Tables.{Tables}
-use Rattle.tables.specs.declared.lent.Vote.TheVariants.{Echo, Ready}
+use Rattle.tables.specs.declared.lent.VoteKind.TheVariants.{Echo, Ready}
 use Rattle.tables.specs.View.{view, no_votes, with_no_votes, with_copy, SameLent, Becomes}
 
 module _ {V : Type 0} (f : Figures V) where

@@ -2,8 +2,8 @@
 use Rattle.std.proofs.Common.{◌≡◌, ℕ, ◌*◌, ◌≤◌, List, [], ◌∷◌, None, Option, ap, ap₂, ◌∙◌, arith}
 use Rattle.std.proofs.Math.Path.{fun_ext}
 use Rattle.grid.specs.Lent.{Filled}
-use Rattle.grid.specs.Grid.{entries, shown, line, pairs, triples, halves}
-use Rattle.grid.proofs.Entries.{shown_clear}
+use Rattle.grid.specs.Grid.{shown, line, pairs, triples, halves}
+use Rattle.grid.proofs.Entries.{entries, shown_clear}
 use Rattle.machine.specs.declared.figures.Figures.{Figures}
 use Rattle.machine.specs.declared.message.Message.{Message}
 use Rattle.machine.specs.declared.station.Station.{Station}

@@ -20,12 +20,6 @@ module _ {V : Type 0} (f : Figures V) (t : Tables V) where
   abbrev n : ℕ
   n = f.stations
 
-  lent_none : SameLent f t t
-  lent_none = record { messages = past_none _ t.pool.slots; votes = past_none _ t.votes; held = past_none _ t.held; stations = past_none _ t.stations; copies = past_none _ t.copies; reads = past_none _ t.reads; reports = past_none _ t.reports }
-
-  pub stays : Sound f t → Becomes f t t (view f t)
-  stays sound = record { shows = refl; sound = sound; lent = lent_none }
-
   room_kept : {u : Tables V} → SameLent f t u → Room f t → Room f u
   room_kept lent room =
       record {

@@ -11,8 +11,8 @@ use Rattle.machine.specs.declared.station.Stage.{Stage}
 use Rattle.machine.specs.declared.station.Station.{Station}
 use Rattle.machine.specs.declared.station.RegisterCopy.{RegisterCopy}
 use Rattle.machine.specs.State.{Cell, put, put_pair, put_triple}
-use Rattle.tables.specs.declared.lent.Vote.{Vote}
-use Rattle.tables.specs.declared.lent.Vote.TheVariants.{Echo, Ready}
+use Rattle.tables.specs.declared.lent.VoteKind.{VoteKind}
+use Rattle.tables.specs.declared.lent.VoteKind.TheVariants.{Echo, Ready}
 use Rattle.tables.specs.View.{first_copy, half, votes_shown, cells, votes_of, no_votes, vote}
 
 -- a table that is another but for one entry
@@ -43,7 +43,7 @@ module _ {V : Type 0} (f : Figures V) where
 
   -- votes that are others but for those of one cell
   votes_by : (copies : List (RegisterCopy V)) (us vs : List (Option V)) (i j : ℕ) (c : Cell V)
-      → ((kind : Vote) (a b k : ℕ) → (eqb a i && eqb b j) ≡ false → votes_shown n us kind a b k ≡ votes_shown n vs kind a b k)
+      → ((kind : VoteKind) (a b k : ℕ) → (eqb a i && eqb b j) ≡ false → votes_shown n us kind a b k ≡ votes_shown n vs kind a b k)
       → cells f copies us i j ≡ c → cells f copies us ≡ put_pair i j c (cells f copies vs)
   votes_by copies us vs i j c away here =
       put_pair_by (cells f copies us) (cells f copies vs) i j c
@@ -52,7 +52,7 @@ module _ {V : Type 0} (f : Figures V) where
       (fun_ext (λ k. away Echo a b k e)) (fun_ext (λ k. away Ready a b k e)))
       here
 
-  pub cells-vote : (copies : List (RegisterCopy V)) (votes : List (Option V)) (kind : Vote) (i j k : ℕ) (v : V) → 2 * n * n * n ≤ length votes → i < n → j < n → k < n
+  pub cells-vote : (copies : List (RegisterCopy V)) (votes : List (Option V)) (kind : VoteKind) (i j k : ℕ) (v : V) → 2 * n * n * n ≤ length votes → i < n → j < n → k < n
       → cells f copies (set votes (row_index n (row_index n (half kind) i) j * n + k) (Some v)) ≡ put_pair i j (vote kind k v (cells f copies votes i j)) (cells f copies votes)
   cells-vote copies votes Echo i j k v room p q r =
       votes_by copies (set votes (row_index n (row_index n 0 i) j * n + k) (Some v)) votes i j _
@@ -61,7 +61,7 @@ module _ {V : Type 0} (f : Figures V) where
       (fun_ext (λ m. halves-set None n votes 0 i j k (Some v) room (omega arith) p q r 0 i j m ∙ same m))
       (fun_ext (λ m. halves-set None n votes 0 i j k (Some v) room (omega arith) p q r 1 i j m)))
     where
-      other : (kind : Vote) (a b m : ℕ) → (eqb a i && eqb b j) ≡ false
+      other : (kind : VoteKind) (a b m : ℕ) → (eqb a i && eqb b j) ≡ false
           → cond (eqb (half kind) 0 && (eqb a i && (eqb b j && eqb m k))) (Some v) (votes_shown n votes kind a b m) ≡ votes_shown n votes kind a b m
       other kind a b m e = grind (arith, nat_tests)
 
@@ -74,7 +74,7 @@ module _ {V : Type 0} (f : Figures V) where
       (fun_ext (λ m. halves-set None n votes 1 i j k (Some v) room (omega arith) p q r 0 i j m))
       (fun_ext (λ m. halves-set None n votes 1 i j k (Some v) room (omega arith) p q r 1 i j m ∙ same m)))
     where
-      other : (kind : Vote) (a b m : ℕ) → (eqb a i && eqb b j) ≡ false
+      other : (kind : VoteKind) (a b m : ℕ) → (eqb a i && eqb b j) ≡ false
           → cond (eqb (half kind) 1 && (eqb a i && (eqb b j && eqb m k))) (Some v) (votes_shown n votes kind a b m) ≡ votes_shown n votes kind a b m
       other kind a b m e = grind (arith, nat_tests)
 
@@ -82,18 +82,18 @@ module _ {V : Type 0} (f : Figures V) where
       same m = grind (arith, nat_tests)
 
 -- the votes of a kind in one cell are gone
-pub cells-clear : {V : Type 0} (f : Figures V) (copies : List (RegisterCopy V)) (us vs : List (Option V)) (kind : Vote) (i j : ℕ)
+pub cells-clear : {V : Type 0} (f : Figures V) (copies : List (RegisterCopy V)) (us vs : List (Option V)) (kind : VoteKind) (i j : ℕ)
     → Filled (row_index f.stations (row_index f.stations (half kind) i) j * f.stations) f.stations None vs us → i < f.stations → j < f.stations
     → cells f copies us ≡ put_pair i j (no_votes kind (cells f copies vs i j)) (cells f copies vs)
 cells-clear {V} f copies us vs kind i j filled p q =
     votes_by f copies us vs i j _ (λ g a b k e. shown kind filled g a b k ∙ away kind g a b k e) (here kind filled)
   where
-    shown : (kind : Vote) → Filled (row_index f.stations (row_index f.stations (half kind) i) j * f.stations) f.stations None vs us → (g : Vote) (a b k : ℕ)
+    shown : (kind : VoteKind) → Filled (row_index f.stations (row_index f.stations (half kind) i) j * f.stations) f.stations None vs us → (g : VoteKind) (a b k : ℕ)
         → votes_shown f.stations us g a b k ≡ cond (eqb (half g) (half kind) && (eqb a i && eqb b j)) None (votes_shown f.stations vs g a b k)
     shown Echo filled g a b k = halves-fill None f.stations vs us 0 i j filled (omega arith) p q (half g) a b k
     shown Ready filled g a b k = halves-fill None f.stations vs us 1 i j filled (omega arith) p q (half g) a b k
 
-    away : (kind g : Vote) (a b k : ℕ) → (eqb a i && eqb b j) ≡ false
+    away : (kind g : VoteKind) (a b k : ℕ) → (eqb a i && eqb b j) ≡ false
         → cond (eqb (half g) (half kind) && (eqb a i && eqb b j)) None (votes_shown f.stations vs g a b k) ≡ votes_shown f.stations vs g a b k
     away kind g a b k e = grind (arith, nat_tests)
 
@@ -103,7 +103,7 @@ cells-clear {V} f copies us vs kind i j filled p q =
     cell : (ℕ → Option V) → (ℕ → Option V) → Cell V
     cell x y = record { copy = pairs (first_copy f.opening) f.stations copies i j; echoes = x; readies = y }
 
-    here : (kind : Vote) → Filled (row_index f.stations (row_index f.stations (half kind) i) j * f.stations) f.stations None vs us → cells f copies us i j ≡ no_votes kind (cells f copies vs i j)
+    here : (kind : VoteKind) → Filled (row_index f.stations (row_index f.stations (half kind) i) j * f.stations) f.stations None vs us → cells f copies us i j ≡ no_votes kind (cells f copies vs i j)
     here Echo filled = ap₂ cell (fun_ext (λ k. shown Echo filled Echo i j k ∙ same k _)) (fun_ext (λ k. shown Echo filled Ready i j k))
     here Ready filled = ap₂ cell (fun_ext (λ k. shown Ready filled Echo i j k)) (fun_ext (λ k. shown Ready filled Ready i j k ∙ same k _))
 
@@ -141,7 +141,7 @@ put_written {V} F i x = fun_ext (λ a. at a (eqb a i) refl)
     at a false e = refl
 
 -- the votes of a kind at station i for register j are a row of the table
-pub row-votes : {V : Type 0} (f : Figures V) (copies : List (RegisterCopy V)) (votes : List (Option V)) (kind : Vote) (i j k : ℕ) → i < f.stations → j < f.stations → k < f.stations
+pub row-votes : {V : Type 0} (f : Figures V) (copies : List (RegisterCopy V)) (votes : List (Option V)) (kind : VoteKind) (i j k : ℕ) → i < f.stations → j < f.stations → k < f.stations
     → votes_of kind (cells f copies votes i j) k ≡ get_or votes (row_index f.stations (row_index f.stations (half kind) i) j * f.stations + k) None
 row-votes f copies votes Echo i j k p q r = halves_is None f.stations votes 0 i j k (omega arith) p q r
 row-votes f copies votes Ready i j k p q r = halves_is None f.stations votes 1 i j k (omega arith) p q r

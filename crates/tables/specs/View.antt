@@ -11,19 +11,19 @@ use Rattle.machine.specs.State.{Cell, State, fresh_cell, send, to_all, with_cell
 use Rattle.machine.specs.Publishing.{vote_echo, vote_ready}
 use Rattle.machine.specs.Calls.{Names, first_station}
 use Rattle.tables.specs.declared.lent.Tables.{Tables}
-use Rattle.tables.specs.declared.lent.Vote.{Vote}
-use Rattle.tables.specs.declared.lent.Vote.TheVariants.{Echo, Ready}
+use Rattle.tables.specs.declared.lent.VoteKind.{VoteKind}
+use Rattle.tables.specs.declared.lent.VoteKind.TheVariants.{Echo, Ready}
 
 -- what a table shows past its stations: the entries that opening writes
 abbrev pub first_copy : {V : Type 0} → V → RegisterCopy V
 first_copy v = (fresh_cell v 0).copy
 
 -- the votes of a kind
-abbrev pub half : Vote → ℕ
+abbrev pub half : VoteKind → ℕ
 half Echo = 0
 half Ready = 1
 
-abbrev pub votes_shown : {V : Type 0} → ℕ → List (Option V) → Vote → ℕ → ℕ → ℕ → Option V
+abbrev pub votes_shown : {V : Type 0} → ℕ → List (Option V) → VoteKind → ℕ → ℕ → ℕ → Option V
 votes_shown n votes kind = halves None n votes (half kind)
 
 abbrev pub cells : {V : Type 0} → Figures V → List (RegisterCopy V) → List (Option V) → ℕ → ℕ → Cell V
@@ -47,11 +47,11 @@ view f t =
     }
 
 -- the votes of a kind that a cell holds, and the cell with one more
-abbrev pub votes_of : {V : Type 0} → Vote → Cell V → ℕ → Option V
+abbrev pub votes_of : {V : Type 0} → VoteKind → Cell V → ℕ → Option V
 votes_of Echo c = c.echoes
 votes_of Ready c = c.readies
 
-abbrev pub vote : {V : Type 0} → Vote → ℕ → V → Cell V → Cell V
+abbrev pub vote : {V : Type 0} → VoteKind → ℕ → V → Cell V → Cell V
 vote Echo k v c = vote_echo k v c
 vote Ready k v c = vote_ready k v c
 
@@ -96,11 +96,11 @@ abbrev pub with_copy : {V : Type 0} → ℕ → ℕ → RegisterCopy V → State
 with_copy i j copy s = with_cell i j (record { copy = copy; echoes = (s.cell i j).echoes; readies = (s.cell i j).readies }) s
 
 -- nobody has cast a vote of a kind
-abbrev pub no_votes : {V : Type 0} → Vote → Cell V → Cell V
+abbrev pub no_votes : {V : Type 0} → VoteKind → Cell V → Cell V
 no_votes Echo c = record { copy = c.copy; echoes = λ _. None; readies = c.readies }
 no_votes Ready c = record { copy = c.copy; echoes = c.echoes; readies = λ _. None }
 
-abbrev pub with_no_votes : {V : Type 0} → Vote → ℕ → ℕ → State V → State V
+abbrev pub with_no_votes : {V : Type 0} → VoteKind → ℕ → ℕ → State V → State V
 with_no_votes kind i j s = with_cell i j (no_votes kind (s.cell i j)) s
 
 -- If the message to station k can only be the one that a table has, those of the table are sent.

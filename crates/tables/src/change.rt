@@ -4,7 +4,7 @@ ghost use Rattle.machine.specs.State.{fresh_cell, put_triple, remove, send, with
 ghost use Rattle.machine.specs.Calls.{Names, at_opening};
 ghost use Rattle.tables.specs.View.{view, vote, with_no_votes, with_copy, Room, Sound, Becomes, SendsEach};
 
-use crate::lent::{Tables, Vote};
+use crate::lent::{Tables, VoteKind};
 use grid::{fill, pair_index, put, triple_index, vote_index, votes_index};
 use machine::figures::Figures;
 use machine::message::Message;
@@ -22,7 +22,7 @@ impl<'a, V: Copy> Tables<'a, V> {
     }
 
     // Station k's first vote at station i for the publication of register j that i works on.
-    pub fn set_vote(&mut self, figures: &Figures<V>, kind: Vote, i: usize, j: usize, k: usize, v: V)
+    pub fn set_vote(&mut self, figures: &Figures<V>, kind: VoteKind, i: usize, j: usize, k: usize, v: V)
         requires sound { Sound figures.now self.old }
         requires station { i < figures.now.stations }
         requires register { j < figures.now.stations }
@@ -35,7 +35,7 @@ impl<'a, V: Copy> Tables<'a, V> {
     }
 
     // Votes of a kind at station i for register j are no longer kept.
-    fn clear_votes(&mut self, figures: &Figures<V>, kind: Vote, i: usize, j: usize)
+    fn clear_votes(&mut self, figures: &Figures<V>, kind: VoteKind, i: usize, j: usize)
         requires sound { Sound figures.now self.old }
         requires station { i < figures.now.stations }
         requires register { j < figures.now.stations }
@@ -54,8 +54,8 @@ impl<'a, V: Copy> Tables<'a, V> {
         ensures shows { Becomes figures.now self.old self.new (with_cell i j (fresh_cell value number) (view figures.now self.old)) }
         ensures waiting { self.new.pool.waiting ≡ self.old.pool.waiting }
     {
-        self.clear_votes(figures, Vote::Echo, i, j);
-        self.clear_votes(figures, Vote::Ready, i, j);
+        self.clear_votes(figures, VoteKind::Echo, i, j);
+        self.clear_votes(figures, VoteKind::Ready, i, j);
         let copy = RegisterCopy {
             value,
             number,

@@ -21,12 +21,12 @@ pub struct Tables<'a, V> {
 
 // The two kinds of vote on a publication. Those of ECHO stand in the first half of the table.
 #[derive(Clone, Copy, PartialEq, Eq, Debug)]
-pub enum Vote {
+pub enum VoteKind {
     Echo,
     Ready,
 }
 
-impl Vote {
+impl VoteKind {
     ghost use Rattle.tables.specs.View.{half};
 
     // Which half of the table its votes stand in.

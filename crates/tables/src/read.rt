@@ -5,12 +5,12 @@ ghost use Rattle.value.specs.Holders.{keeps};
 ghost use Rattle.machine.specs.Operations.{fresh_reports};
 ghost use Rattle.tables.specs.View.{view, votes_of, Sound};
 
-use crate::lent::{Tables, Vote};
+use crate::lent::{Tables, VoteKind};
 use grid::{pair_index, triple_index, vote_index, votes_index};
 use machine::figures::Figures;
 use machine::message::Message;
 use machine::station::{RegisterCopy, Station};
-use station_set::{contains, those};
+use station_set::{contains, set_of};
 use value::{Value, holders};
 
 impl<'a, V: Copy> Tables<'a, V> {
@@ -54,7 +54,7 @@ impl<'a, V: Copy> Tables<'a, V> {
     }
 
     // Station k's first vote at station i for the publication of register j that i works on.
-    pub fn vote(&self, figures: &Figures<V>, kind: Vote, i: usize, j: usize, k: usize) -> Option<V>
+    pub fn vote(&self, figures: &Figures<V>, kind: VoteKind, i: usize, j: usize, k: usize) -> Option<V>
         requires sound { Sound figures.now self.now }
         requires station { i < figures.now.stations }
         requires register { j < figures.now.stations }
@@ -72,7 +72,7 @@ impl<'a, V: Copy> Tables<'a, V> {
     {
         let at = pair_index(figures.stations, i, 0);
         let row = &self.reports[at..at + figures.stations];
-        those(
+        set_of(
             figures.stations,
             |k|
                 requires { k < length row.now }
@@ -92,7 +92,7 @@ impl<'a, V: Copy> Tables<'a, V> {
 
 impl<'a, V: Value> Tables<'a, V> {
     // The stations whose vote of a kind is v.
-    pub fn voters(&self, figures: &Figures<V>, kind: Vote, i: usize, j: usize, v: V) -> u16
+    pub fn voters(&self, figures: &Figures<V>, kind: VoteKind, i: usize, j: usize, v: V) -> u16
         requires sound { Sound figures.now self.now }
         requires station { i < figures.now.stations }
         requires register { j < figures.now.stations }

@@ -5,7 +5,7 @@ ghost use Rattle.std.specs.Prelude.{◌≡◌, ℕ, ◌<◌, ◌≤◌, Decides,
 ghost use Rattle.station_set.specs.Sets.{has};
 ghost use Rattle.value.specs.Holders.{keeps, holders_of};
 
-use station_set::{ROOM, those};
+use station_set::{ROOM, set_of};
 
 pub mod number;
 pub mod tally;
@@ -40,7 +40,7 @@ pub fn holders<V: Value>(row: &[Option<V>], v: V) -> u16
     ensures value { result ≡ holders_of V.eq v row.now }
     ensures members { (s : ℕ) → s < 16 → Decides (has result s) (slice_index_or row.now s None ≡ Some v) }
 {
-    those(
+    set_of(
         row.len().min(ROOM),
         |s|
             requires { s < length row.now }

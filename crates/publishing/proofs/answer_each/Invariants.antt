@@ -1,6 +1,6 @@
 use Rattle.std.proofs.Common.{◌≤◌, ◌+◌}
 use Rattle.tables.specs.View.{view, Becomes}
-use Rattle.publishing.specs.Answering.{answer_first}
+use Rattle.publishing.proofs.Answered.{answer_first}
 use Rattle.publishing.proofs.answer_each.Given as goal
 
 abbrev pub invariant-loop-k : goal.invariant-loop-k

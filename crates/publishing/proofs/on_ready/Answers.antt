@@ -1,7 +1,7 @@
 use Rattle.std.proofs.Common.{rules, tests, ◌≡◌, suc, sym, ap, ◌∙◌}
 use Rattle.machine.specs.State.{setting, number}
 use Rattle.machine.specs.Publishing.{join_readies, count_readies}
-use Rattle.tables.specs.declared.lent.Vote.TheVariants.{Ready}
+use Rattle.tables.specs.declared.lent.VoteKind.TheVariants.{Ready}
 use Rattle.tables.specs.View.{view}
 use Rattle.tables.proofs.Chain.{and_then, becomes_same}
 use Rattle.publishing.proofs.Numbers.{number_voted, number_joined}

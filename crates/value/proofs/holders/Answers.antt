@@ -18,8 +18,8 @@ returns g c =
     let row = c.args.row.now in
     let v = c.args.v in
     let test : ℕ → Bool = λ s. keeps equal v (get_or row s None) in
-    let whole : c.those.result ≡ holders_of equal v row =
-    c.those.ensures test (λ s b l p. search (rules, tests))
+    let whole : c.set_of.result ≡ holders_of equal v row =
+    c.set_of.ensures test (λ s b l p. search (rules, tests))
     ∙ set_of_rest c.min.result 16 test (omega (arith, c.min.ensures)) (omega arith) (λ s past room. ap (keeps equal v) (get_or_past row s None (omega (arith, c.min.ensures)))) in
     record {
       value = whole;

@@ -1,6 +1,6 @@
 use Rattle.std.proofs.Common.{false}
 use Rattle.machine.specs.declared.station.RegisterCopy.{RegisterCopy}
-use Rattle.tables.specs.declared.lent.Vote.TheVariants.{Ready}
+use Rattle.tables.specs.declared.lent.VoteKind.TheVariants.{Ready}
 use Rattle.tables.specs.View.{view, with_no_votes, with_copy}
 use Rattle.tables.proofs.Chain.{and_then, becomes_same, cell_renewed}
 use Rattle.tables.proofs.lent.Tables.renew.Goals as goal

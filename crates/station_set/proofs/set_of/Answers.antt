@@ -1,8 +1,8 @@
 use Rattle.std.proofs.Common.{◌≡◌, cond, ap, sym, ◌∙◌, arith}
 use Rattle.station_set.specs.Sets.{with_station, set_of}
 use Rattle.station_set.proofs.Members.{set_of_none, set_of_more}
-use Rattle.station_set.proofs.those.Goals as goal
-use Rattle.station_set.proofs.those.Goals.{then-passes, else-passes}
+use Rattle.station_set.proofs.set_of.Goals as goal
+use Rattle.station_set.proofs.set_of.Goals.{then-passes, else-passes}
 
 pub loop-s-init : goal.loop-s-init
 loop-s-init g c = (c.requires.callable, λ test each. set_of_none test)

@@ -1,6 +1,6 @@
 use Rattle.std.proofs.Common.{◌≡◌, ℕ, ◌<◌, Bool}
 use Rattle.station_set.specs.Sets.{set_of}
-use Rattle.station_set.proofs.those.Given as goal
+use Rattle.station_set.proofs.set_of.Given as goal
 
 abbrev pub invariant-loop-s : goal.invariant-loop-s
 invariant-loop-s g l =
