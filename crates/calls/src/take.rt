@@ -52,10 +52,7 @@ pub fn withdraw<V: Copy>(
     let message = tables
         .message(figures, place)
         .ok_or(Decline::NoSuchMessage)?;
-    require(
-        is_faulty(figures, sender(&message)),
-        Decline::WrongSide,
-    )?;
+    require(is_faulty(figures, sender(&message)), Decline::WrongSide)?;
     tables.remove(figures, place);
     Ok(Answer::Done)
 }

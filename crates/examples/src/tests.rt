@@ -261,7 +261,7 @@ fn a_write_and_a_read_on_lent_tables(rt: HostRuntime) -> Result<(), Fail> {
             number: 1
         })
     );
-    // The faulty station is the third to tell station 1 how far it is, and tells too much; then it takes that back.
+    // Before any other station, the faulty one tells station 1 how far it is, and too much; then it takes that back.
     assert_eq!(rt; begin_read(&mut tables, &figures, 1, 0), Ok(Answer::Done));
     let too_far = Forgery {
         kind: 6,

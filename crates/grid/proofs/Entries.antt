@@ -3,7 +3,7 @@ use Rattle.std.proofs.Common.{◌≡◌, ℕ, ◌+◌, ◌-◌, ◌*◌, ◌/◌
 use Rattle.std.proofs.lemmas.Nat.{mul-add-lt, div-mul-add, mod-mul-add}
 use Rattle.std.proofs.lemmas.Bool.{and_parts, and_from, ltb-true, lt-ltb, eqb-true, eq-eqb, both_ways, false≢true}
 use Rattle.std.proofs.lemmas.List.{get_or-set_same, get_or-set_other}
-use Rattle.grid.specs.Lent.{Filled}
+use Rattle.slices.specs.Lent.{Filled}
 use Rattle.grid.specs.Grid.{row_index, entry, each_below, shown, line, pairs, triples, halves}
 
 -- how many entries h rows have, with as many columns after one another

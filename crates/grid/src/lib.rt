@@ -1,9 +1,8 @@
 //! Tables of stations in flat slices: where an entry stands, row after row. A lab has at most ten stations.
 #![tactic(auto)]
 
-ghost use Rattle.std.specs.Prelude.{◌≡◌, ◌+◌, ◌*◌, ◌<◌, ◌≤◌, length, slice_set};
+ghost use Rattle.std.specs.Prelude.{◌≡◌, ◌+◌, ◌*◌, ◌<◌, ◌≤◌};
 ghost use Rattle.grid.specs.Grid.{row_index};
-ghost use Rattle.grid.specs.Lent.{Filled};
 
 // The entry of column j in row i, where a row has n columns. The votes have the most rows: 2 · 10 · 10.
 fn row_index(n: usize, i: usize, j: usize) -> usize
@@ -61,22 +60,4 @@ pub fn vote_index(n: usize, half: usize, i: usize, j: usize, k: usize) -> usize
     ensures within { result < 2 * n * n * n }
 {
     votes_index(n, half, i, j) + k
-}
-
-// Writes one entry. In a function of its own, so that it serves entries of every type alike.
-pub fn put<T: Copy>(xs: &mut [T], at: usize, x: T)
-    requires { at < length xs.old }
-    ensures { xs.new ≡ slice_set xs.old at x }
-{
-    xs[at] = x;
-}
-
-// Writes the same into `count` entries, from one on.
-pub fn fill<T: Copy>(xs: &mut [T], from: usize, count: usize, x: T)
-    requires { from + count ≤ length xs.old }
-    ensures { Filled from count x xs.old xs.new }
-{
-    for k in 0..count {
-        xs[from + k] = x;
-    }
 }

@@ -3,7 +3,7 @@
 
 ghost use Rattle.std.specs.Prelude.{◌≡◌, ◌+◌, ◌<◌, ◌≤◌, [], ◌∷◌, ◌++◌, length, slice_get};
 ghost use Rattle.std.specs.List.{remove};
-ghost use Rattle.grid.specs.Lent.{SamePast};
+ghost use Rattle.slices.specs.Lent.{SamePast};
 
 // The first `waiting` slots hold the messages that wait; what the others hold means nothing.
 #[derive(Drop)]

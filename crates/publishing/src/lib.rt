@@ -12,12 +12,11 @@ ghost use Rattle.publishing.specs.Answering.{answer_one, answer_each};
 
 pub mod publication;
 
-pub use publication::Publication;
-
 use machine::figures::Figures;
 use machine::message::Message;
 use machine::station::RegisterCopy;
 use operations::test_freshness;
+pub use publication::Publication;
 use quorum::QuorumSystem;
 use tables::lent::{Tables, VoteKind};
 use value::Value;
@@ -177,7 +176,10 @@ pub fn on_echo<V: Value, S: QuorumSystem>(
         value,
         ..
     } = publication;
-    if tables.vote(figures, VoteKind::Echo, i, register, k).is_none() {
+    if tables
+        .vote(figures, VoteKind::Echo, i, register, k)
+        .is_none()
+    {
         tables.set_vote(figures, VoteKind::Echo, i, register, k, value);
         count_echoes(tables, figures, system, i, publication);
     }
@@ -359,7 +361,10 @@ pub fn on_ready<V: Value, S: QuorumSystem>(
         value,
         ..
     } = publication;
-    if tables.vote(figures, VoteKind::Ready, i, register, k).is_none() {
+    if tables
+        .vote(figures, VoteKind::Ready, i, register, k)
+        .is_none()
+    {
         tables.set_vote(figures, VoteKind::Ready, i, register, k, value);
         join_readies(tables, figures, system, i, publication);
         count_readies(tables, figures, system, i, publication);

@@ -2,7 +2,7 @@
 use Rattle.std.proofs.Common.{◌≡◌, ℕ, None, ap, ◌∙◌, arith}
 use Rattle.std.proofs.Math.Path.{fun_ext}
 use Rattle.std.proofs.lemmas.Bool.Decides.{nat_tests}
-use Rattle.grid.proofs.Lent.{past_then}
+use Rattle.slices.proofs.Lent.{past_then}
 use Rattle.machine.specs.declared.figures.Figures.{Figures}
 use Rattle.machine.specs.declared.station.RegisterCopy.{RegisterCopy}
 use Rattle.machine.specs.State.{Cell, State, put_pair, with_cell}

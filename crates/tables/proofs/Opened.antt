@@ -1,7 +1,7 @@
 -- Tables that hold what opening writes show the state of a bench that has just been opened.
 use Rattle.std.proofs.Common.{◌≡◌, ℕ, ◌*◌, ◌≤◌, List, [], ◌∷◌, None, Option, ap, ap₂, ◌∙◌, arith}
 use Rattle.std.proofs.Math.Path.{fun_ext}
-use Rattle.grid.specs.Lent.{Filled}
+use Rattle.slices.specs.Lent.{Filled}
 use Rattle.grid.specs.Grid.{shown, line, pairs, triples, halves}
 use Rattle.grid.proofs.Entries.{entries, shown_clear}
 use Rattle.machine.specs.declared.figures.Figures.{Figures}

@@ -3,8 +3,8 @@ use Rattle.std.proofs.Common.{◌≡◌, ℕ, ◌*◌, ◌≤◌, List, [], Opti
 use Rattle.std.specs.Borrow.{MutBor}
 use Rattle.std.specs.List.{All}
 use Rattle.std.proofs.lemmas.List.Elements.{All-nil}
-use Rattle.grid.specs.Lent.{SamePast}
-use Rattle.grid.proofs.Lent.{past_none}
+use Rattle.slices.specs.Lent.{SamePast}
+use Rattle.slices.proofs.Lent.{past_none}
 use Rattle.pool.specs.declared.Pool.{Pool}
 use Rattle.pool.specs.Pool.{in_order}
 use Rattle.machine.specs.declared.figures.Figures.{Figures}

@@ -3,7 +3,7 @@ use Rattle.std.proofs.Common.{◌≡◌, ℕ, ◌+◌, ◌*◌, ◌<◌, ◌≤�
 use Rattle.std.proofs.Math.Path.{fun_ext}
 use Rattle.std.proofs.lemmas.Bool.{and_parts, and_from, eqb-true, eq-eqb}
 use Rattle.std.proofs.lemmas.Bool.Decides.{nat_tests}
-use Rattle.grid.specs.Lent.{Filled}
+use Rattle.slices.specs.Lent.{Filled}
 use Rattle.grid.specs.Grid.{row_index, line, pairs, triples}
 use Rattle.grid.proofs.Entries.{line-set, pairs-set, triples-set, halves-set, halves-fill, halves_is}
 use Rattle.machine.specs.declared.figures.Figures.{Figures}

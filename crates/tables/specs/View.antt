@@ -2,7 +2,7 @@
 use Rattle.std.specs.Prelude.{◌≡◌, ℕ, ◌*◌, ◌<◌, ◌≤◌, List, length, Option, None}
 use Rattle.std.specs.List.{All}
 use Rattle.grid.specs.Grid.{line, pairs, triples, halves}
-use Rattle.grid.specs.Lent.{SamePast}
+use Rattle.slices.specs.Lent.{SamePast}
 use Rattle.pool.specs.Pool.{in_order}
 use Rattle.machine.specs.declared.figures.Figures.{Figures}
 use Rattle.machine.specs.declared.message.Message.{Message}
@@ -55,7 +55,7 @@ abbrev pub vote : {V : Type 0} → VoteKind → ℕ → V → Cell V → Cell V
 vote Echo k v c = vote_echo k v c
 vote Ready k v c = vote_ready k v c
 
--- the slices have room for what the figures ask
+-- the figures are below their upper limits, and the slices have room for them
 pub record Room {V : Type 0} (f : Figures V) (t : Tables V) : Type 0 where
   pub few : f.stations ≤ 10
   pub numbers : f.highest ≤ 999999999999

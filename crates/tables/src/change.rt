@@ -5,10 +5,11 @@ ghost use Rattle.machine.specs.Calls.{Names, at_opening};
 ghost use Rattle.tables.specs.View.{view, vote, with_no_votes, with_copy, Room, Sound, Becomes, SendsEach};
 
 use crate::lent::{Tables, VoteKind};
-use grid::{fill, pair_index, put, triple_index, vote_index, votes_index};
+use grid::{pair_index, triple_index, vote_index, votes_index};
 use machine::figures::Figures;
 use machine::message::Message;
 use machine::station::{RegisterCopy, Stage, Station};
+use slices::{fill, put};
 
 impl<'a, V: Copy> Tables<'a, V> {
     pub fn set_copy(&mut self, figures: &Figures<V>, i: usize, j: usize, copy: RegisterCopy<V>)
@@ -22,7 +23,15 @@ impl<'a, V: Copy> Tables<'a, V> {
     }
 
     // Station k's first vote at station i for the publication of register j that i works on.
-    pub fn set_vote(&mut self, figures: &Figures<V>, kind: VoteKind, i: usize, j: usize, k: usize, v: V)
+    pub fn set_vote(
+        &mut self,
+        figures: &Figures<V>,
+        kind: VoteKind,
+        i: usize,
+        j: usize,
+        k: usize,
+        v: V,
+    )
         requires sound { Sound figures.now self.old }
         requires station { i < figures.now.stations }
         requires register { j < figures.now.stations }

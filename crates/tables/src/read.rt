@@ -54,7 +54,14 @@ impl<'a, V: Copy> Tables<'a, V> {
     }
 
     // Station k's first vote at station i for the publication of register j that i works on.
-    pub fn vote(&self, figures: &Figures<V>, kind: VoteKind, i: usize, j: usize, k: usize) -> Option<V>
+    pub fn vote(
+        &self,
+        figures: &Figures<V>,
+        kind: VoteKind,
+        i: usize,
+        j: usize,
+        k: usize,
+    ) -> Option<V>
         requires sound { Sound figures.now self.now }
         requires station { i < figures.now.stations }
         requires register { j < figures.now.stations }

@@ -1,7 +1,7 @@
 use Rattle.std.proofs.Common.{◌∷◌, ◌++◌, [], map, ap, ap₂, ◌∙◌, sym, arith, append_assoc}
 use Rattle.std.specs.List.{range_with_len}
 use Rattle.std.proofs.lemmas.List.FromFn.{map-range_with_len_more}
-use Rattle.grid.proofs.Lent.{past_then}
+use Rattle.slices.proofs.Lent.{past_then}
 use Rattle.pool.specs.Pool.{in_order}
 use Rattle.pool.proofs.Pool.join_each.Goals as goal
 

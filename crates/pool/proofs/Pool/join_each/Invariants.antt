@@ -1,5 +1,5 @@
 use Rattle.std.proofs.Common.{◌≡◌, ◌+◌}
-use Rattle.grid.specs.Lent.{SamePast}
+use Rattle.slices.specs.Lent.{SamePast}
 use Rattle.pool.specs.Pool.{JoinsEach}
 use Rattle.pool.proofs.Pool.join_each.Given as goal
 

@@ -1,5 +1,5 @@
 use Rattle.std.proofs.Common.{refl, arith, None}
-use Rattle.grid.proofs.Lent.{past_more, past_fill}
+use Rattle.slices.proofs.Lent.{past_more, past_fill}
 use Rattle.tables.proofs.Parts.{fresh_becomes}
 use Rattle.tables.proofs.Opened.{shows_opening}
 use Rattle.tables.proofs.lent.Tables.clear.Goals as goal

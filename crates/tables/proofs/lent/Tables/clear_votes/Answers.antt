@@ -1,7 +1,7 @@
 use Rattle.std.proofs.Common.{◌≡◌, ◌*◌, ap, ◌∙◌, refl, subst, None}
-use Rattle.grid.specs.Lent.{Filled}
+use Rattle.slices.specs.Lent.{Filled}
 use Rattle.grid.specs.Grid.{row_index}
-use Rattle.grid.proofs.Lent.{past_fill}
+use Rattle.slices.proofs.Lent.{past_fill}
 use Rattle.tables.specs.View.{view, half}
 use Rattle.tables.proofs.Shown.{cells-clear}
 use Rattle.tables.proofs.Parts.{votes_become}

@@ -1,6 +1,6 @@
 use Rattle.std.proofs.Common.{ap, sym, subst, arith}
 use Rattle.std.specs.List.{All}
-use Rattle.grid.proofs.Lent.{past_more}
+use Rattle.slices.proofs.Lent.{past_more}
 use Rattle.pool.specs.Pool.{in_order}
 use Rattle.machine.specs.Calls.{Names}
 use Rattle.machine.proofs.Tables.{all_removed}

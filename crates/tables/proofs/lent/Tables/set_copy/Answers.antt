@@ -1,5 +1,5 @@
 use Rattle.std.proofs.Common.{slice_set, ap, ◌∙◌, refl}
-use Rattle.grid.proofs.Lent.{past_set}
+use Rattle.slices.proofs.Lent.{past_set}
 use Rattle.tables.specs.View.{view, cells}
 use Rattle.tables.proofs.Shown.{cells-copy}
 use Rattle.tables.proofs.Parts.{copies_become}

@@ -1,5 +1,5 @@
 use Rattle.std.proofs.Common.{slice_set, ap, ◌∙◌, refl}
-use Rattle.grid.proofs.Lent.{past_set}
+use Rattle.slices.proofs.Lent.{past_set}
 use Rattle.grid.specs.Grid.{pairs}
 use Rattle.tables.specs.View.{view}
 use Rattle.tables.proofs.Shown.{pairs-put}

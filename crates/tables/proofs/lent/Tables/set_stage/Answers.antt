@@ -1,5 +1,5 @@
 use Rattle.std.proofs.Common.{ap, sym, ◌∙◌, refl, arith, slice_index_or, ◌≡◌}
-use Rattle.grid.proofs.Lent.{past_set}
+use Rattle.slices.proofs.Lent.{past_set}
 use Rattle.grid.specs.Grid.{line}
 use Rattle.std.proofs.lemmas.List.{get_or_default}
 use Rattle.grid.proofs.Entries.{line_is}

@@ -1,5 +1,5 @@
 use Rattle.std.proofs.Common.{◌≡◌, slice_set, ap, ◌∙◌, refl, Some}
-use Rattle.grid.proofs.Lent.{past_set}
+use Rattle.slices.proofs.Lent.{past_set}
 use Rattle.grid.specs.Grid.{row_index}
 use Rattle.tables.specs.View.{view, cells, half}
 use Rattle.tables.proofs.Shown.{cells-vote}

@@ -2,7 +2,7 @@
 use Rattle.std.proofs.Common.{◌≡◌, ℕ, ◌+◌, ◌-◌, ◌<◌, ◌≤◌, List, length, drop, set, refl, sym, ap, ◌∙◌, arith}
 use Rattle.std.specs.Borrow.{MutBor}
 use Rattle.std.proofs.lemmas.List.{drop-drop, drop-set-lt, length-drop, length-set, ext_get_or, get_or-drop}
-use Rattle.grid.specs.Lent.{SamePast, Filled}
+use Rattle.slices.specs.Lent.{SamePast, Filled}
 
 pub past_none : {X : Type 0} (n : ℕ) (a : MutBor (List X)) → SamePast n a a
 past_none n a = record { slice = refl; length = refl; rest = refl }
