@@ -5,7 +5,7 @@ use Rattle.machine.specs.State.{Setting, Cell, State, number, with_cell}
 use Rattle.machine.specs.Publishing.{mark_readied, ready_voters, send_ready, join_readies}
 use Rattle.tables.specs.declared.lent.VoteKind.{VoteKind}
 use Rattle.tables.specs.declared.lent.VoteKind.TheVariants.{Echo, Ready}
-use Rattle.tables.specs.View.{vote}
+use Rattle.tables.specs.Changes.{vote}
 use Rattle.tables.proofs.Chain.{put_pair_here}
 
 pub number_voted : {V : Type 0} (kind : VoteKind) (i j k : ℕ) (v : V) (s : State V) → number (with_cell i j (vote kind k v (s.cell i j)) s) i j ≡ number s i j

@@ -8,7 +8,8 @@ use Rattle.machine.specs.declared.station.RegisterCopy.{RegisterCopy}
 use Rattle.machine.specs.State.{Cell, State, put_pair, with_cell}
 use Rattle.tables.specs.declared.lent.Tables.{Tables}
 use Rattle.tables.specs.declared.lent.VoteKind.TheVariants.{Echo, Ready}
-use Rattle.tables.specs.View.{view, no_votes, with_no_votes, with_copy, SameLent, Becomes}
+use Rattle.tables.specs.View.{view, SameLent, Becomes}
+use Rattle.tables.specs.Changes.{no_votes, with_no_votes, with_copy}
 
 module _ {V : Type 0} (f : Figures V) where
   lent_then : (a b c : Tables V) → SameLent f a b → SameLent f b c → SameLent f a c

@@ -13,7 +13,8 @@ use Rattle.machine.specs.declared.station.RegisterCopy.{RegisterCopy}
 use Rattle.machine.specs.State.{Cell, put, put_pair, put_triple}
 use Rattle.tables.specs.declared.lent.VoteKind.{VoteKind}
 use Rattle.tables.specs.declared.lent.VoteKind.TheVariants.{Echo, Ready}
-use Rattle.tables.specs.View.{first_copy, half, votes_shown, cells, votes_of, no_votes, vote}
+use Rattle.tables.specs.View.{first_copy, half, votes_shown, cells, votes_of}
+use Rattle.tables.specs.Changes.{no_votes, vote}
 
 -- a table that is another but for one entry
 put_pair_by : {A : Type 0} (F G : ℕ → ℕ → A) (i j : ℕ) (x : A) → ((a b : ℕ) → (eqb a i && eqb b j) ≡ false → F a b ≡ G a b) → F i j ≡ x → F ≡ put_pair i j x G

@@ -1,14 +1,12 @@
 -- What the tables of an open bench show: the machine's state.
-use Rattle.std.specs.Prelude.{◌≡◌, ℕ, ◌*◌, ◌<◌, ◌≤◌, List, length, Option, None}
+use Rattle.std.specs.Prelude.{◌≡◌, ℕ, ◌*◌, ◌≤◌, List, length, Option, None}
 use Rattle.std.specs.List.{All}
 use Rattle.grid.specs.Grid.{line, pairs, triples, halves}
 use Rattle.slices.specs.Lent.{SamePast}
 use Rattle.pool.specs.Pool.{in_order}
 use Rattle.machine.specs.declared.figures.Figures.{Figures}
-use Rattle.machine.specs.declared.message.Message.{Message}
 use Rattle.machine.specs.declared.station.RegisterCopy.{RegisterCopy}
-use Rattle.machine.specs.State.{Cell, State, fresh_cell, send, to_all, with_cell}
-use Rattle.machine.specs.Publishing.{vote_echo, vote_ready}
+use Rattle.machine.specs.State.{Cell, State, fresh_cell}
 use Rattle.machine.specs.Calls.{Names, first_station}
 use Rattle.tables.specs.declared.lent.Tables.{Tables}
 use Rattle.tables.specs.declared.lent.VoteKind.{VoteKind}
@@ -46,14 +44,10 @@ view f t =
       pool = in_order t.pool;
     }
 
--- the votes of a kind that a cell holds, and the cell with one more
+-- the votes of a kind that a cell holds
 abbrev pub votes_of : {V : Type 0} → VoteKind → Cell V → ℕ → Option V
 votes_of Echo c = c.echoes
 votes_of Ready c = c.readies
-
-abbrev pub vote : {V : Type 0} → VoteKind → ℕ → V → Cell V → Cell V
-vote Echo k v c = vote_echo k v c
-vote Ready k v c = vote_ready k v c
 
 -- the figures are below their upper limits, and the slices have room for them
 pub record Room {V : Type 0} (f : Figures V) (t : Tables V) : Type 0 where
@@ -90,21 +84,3 @@ pub record Becomes {V : Type 0} (f : Figures V) (before after : Tables V) (s : S
   pub shows : view f after ≡ s
   pub sound : Sound f after
   pub lent : SameLent f before after
-
--- station i's copy of register j becomes another
-abbrev pub with_copy : {V : Type 0} → ℕ → ℕ → RegisterCopy V → State V → State V
-with_copy i j copy s = with_cell i j (record { copy = copy; echoes = (s.cell i j).echoes; readies = (s.cell i j).readies }) s
-
--- nobody has cast a vote of a kind
-abbrev pub no_votes : {V : Type 0} → VoteKind → Cell V → Cell V
-no_votes Echo c = record { copy = c.copy; echoes = λ _. None; readies = c.readies }
-no_votes Ready c = record { copy = c.copy; echoes = c.echoes; readies = λ _. None }
-
-abbrev pub with_no_votes : {V : Type 0} → VoteKind → ℕ → ℕ → State V → State V
-with_no_votes kind i j s = with_cell i j (no_votes kind (s.cell i j)) s
-
--- If the message to station k can only be the one that a table has, those of the table are sent.
-abbrev pub SendsEach : {V : Type 0} → Figures V → (ℕ → Message V → Type 0) → Tables V → Tables V → Type 0
-SendsEach {V} f CanBe before after =
-    (table : ℕ → Message V) → ((k : ℕ) (m : Message V) → k < f.stations → CanBe k m → m ≡ table k) → ((k : ℕ) → k < f.stations → Names f.stations (table k))
-    → Becomes f before after (send (to_all f.stations table) (view f before))

@@ -2,7 +2,8 @@
 ghost use Rattle.std.specs.Prelude.{◌≡◌, ◌+◌, ◌<◌, ◌≤◌, [], ◌∷◌};
 ghost use Rattle.machine.specs.State.{fresh_cell, put_triple, remove, send, with_cell, with_held, with_reads, with_report, with_stage, with_written};
 ghost use Rattle.machine.specs.Calls.{Names, at_opening};
-ghost use Rattle.tables.specs.View.{view, vote, with_no_votes, with_copy, Room, Sound, Becomes, SendsEach};
+ghost use Rattle.tables.specs.View.{view, Room, Sound, Becomes};
+ghost use Rattle.tables.specs.Changes.{vote, with_no_votes, with_copy, SendsEach};
 
 use crate::lent::{Tables, VoteKind};
 use grid::{pair_index, triple_index, vote_index, votes_index};

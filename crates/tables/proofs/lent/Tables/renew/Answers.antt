@@ -1,7 +1,8 @@
 use Rattle.std.proofs.Common.{false}
 use Rattle.machine.specs.declared.station.RegisterCopy.{RegisterCopy}
 use Rattle.tables.specs.declared.lent.VoteKind.TheVariants.{Ready}
-use Rattle.tables.specs.View.{view, with_no_votes, with_copy}
+use Rattle.tables.specs.View.{view}
+use Rattle.tables.specs.Changes.{with_no_votes, with_copy}
 use Rattle.tables.proofs.Chain.{and_then, becomes_same, cell_renewed}
 use Rattle.tables.proofs.lent.Tables.renew.Goals as goal
 
