@@ -14,7 +14,7 @@ use quorum::QuorumSystem;
 use tables::lent::Tables;
 use value::Value;
 
-// Whether a number is past the one after another.
+// Whether a number is greater than the one that follows `at`.
 fn past_next(number: u64, at: u64) -> bool
     ensures { result ≡ nat_lt (suc at) number }
 {
