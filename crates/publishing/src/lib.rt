@@ -176,10 +176,8 @@ pub fn on_echo<V: Value, S: QuorumSystem>(
         value,
         ..
     } = publication;
-    if tables
-        .vote(figures, VoteKind::Echo, i, register, k)
-        .is_none()
-    {
+    let echo = tables.vote(figures, VoteKind::Echo, i, register, k);
+    if echo.is_none() {
         tables.set_vote(figures, VoteKind::Echo, i, register, k, value);
         count_echoes(tables, figures, system, i, publication);
     }
@@ -361,10 +359,8 @@ pub fn on_ready<V: Value, S: QuorumSystem>(
         value,
         ..
     } = publication;
-    if tables
-        .vote(figures, VoteKind::Ready, i, register, k)
-        .is_none()
-    {
+    let ready = tables.vote(figures, VoteKind::Ready, i, register, k);
+    if ready.is_none() {
         tables.set_vote(figures, VoteKind::Ready, i, register, k, value);
         join_readies(tables, figures, system, i, publication);
         count_readies(tables, figures, system, i, publication);
