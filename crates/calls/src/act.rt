@@ -66,7 +66,7 @@ pub(crate) fn act<V: Value, S: QuorumSystem>(
     requires due { ahead (view figures.now tables.old) message ≡ false }
     requires room { tables.old.pool.waiting + (3 * figures.now.stations + 1) ≤ figures.now.places }
     ensures sent { tables.new.pool.waiting ≤ tables.old.pool.waiting + (3 * figures.now.stations + 1) }
-    ensures performs { Performs figures.now tables.old tables.new result (act (setting (S.families system.now) V.eq) (view figures.now tables.old) message) }
+    ensures performs { Performs figures.now tables.old tables.new result (act (setting (S.families system.now) V.equal) (view figures.now tables.old) message) }
 {
     match message {
         Message::Init {

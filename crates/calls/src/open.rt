@@ -45,7 +45,7 @@ pub fn open<V: Value, S: QuorumSystem>(
     system: &S,
     opening: &Opening<V>,
 ) -> Result<Figures<V>, Decline>
-    ensures { Opens (setting (S.families system.now) V.eq) opening.now tables.old tables.new result }
+    ensures { Opens (setting (S.families system.now) V.equal) opening.now tables.old tables.new result }
 {
     let stations = system.size();
     let Opening {

@@ -22,7 +22,7 @@ pub fn take<V: Value, S: QuorumSystem>(
     place: u64,
 ) -> Result<Answer<V>, Decline>
     requires { Sound figures.now tables.old }
-    ensures { Follows figures.now tables.old tables.new result (take_outcome (setting (S.families system.now) V.eq) (view figures.now tables.old) place) }
+    ensures { Follows figures.now tables.old tables.new result (take_outcome (setting (S.families system.now) V.equal) (view figures.now tables.old) place) }
 {
     require(system.size() == figures.stations, Decline::OtherSize)?;
     let place = place as usize;

@@ -1,5 +1,5 @@
 -- A loop that lists, by rising masks, the sets of which P holds.
-use Rattle.std.proofs.Common.{ℕ, ◌+◌, ◌<◌, List, [], ◌∷◌, ◌++◌, subst, ⊎_elim, arith}
+use Rattle.std.proofs.Common.{◌≡◌, ℕ, ◌+◌, ◌<◌, List, [], ◌∷◌, ◌++◌, length, subst, ⊎_elim, arith}
 use Rattle.std.proofs.lemmas.Bool.{cases_eq}
 use Rattle.std.proofs.lemmas.List.Elements.{All-push, All-weaker, Contains-push, Contains-append_left}
 use Rattle.std.proofs.lemmas.List.Quantifiers.{all_pairs_push}
@@ -8,6 +8,9 @@ use Rattle.census.specs.Outermost.{Exactly}
 module _ (P : ℕ → Type 0) where
   abbrev pub Below : ℕ → ℕ → Type 0
   Below k set = (set < k) × P set
+
+  pub listed_none : (sets : List ℕ) → length sets ≡ 0 → Exactly (Below 0) sets
+  listed_none sets none = record { rising = λ i j d l h. absurd (omega arith); sound = λ i d h. absurd (omega arith); complete = λ set w. absurd (omega (arith, w.0)) }
 
   below_more : (k set : ℕ) → Below k set → Below (k + 1) set
   below_more k set w = (omega (arith, w.0), w.1)

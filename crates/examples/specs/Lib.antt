@@ -1,3 +1,4 @@
+pub mod Kinds
 pub mod Systems
 pub mod Rows
 pub mod Table

@@ -4,6 +4,8 @@
 ghost use Rattle.examples.specs.Schedules.{SchedulesHold};
 ghost use Rattle.examples.specs.Table.{ExamplesHold};
 
+pub mod kinds;
+
 // Does nothing: its contract is that every row of the table holds.
 pub fn examples_hold()
     ensures { ExamplesHold }

@@ -1,6 +1,7 @@
 //! The examples as the code plays them.
 ghost use Rattle.tables.specs.View.{Sound};
 
+use crate::kinds::Timed;
 use calls::begin::{begin_read, begin_write};
 use calls::count::count;
 use calls::forge::forge;
@@ -20,7 +21,7 @@ use std::alloc::{AllocError, Global};
 use std::test::Fail;
 use survey_text::answer;
 use tables::lent::Tables;
-use value::{Number, Printable, Tally, holders};
+use value::{Number, Printable, Tally, Value, holders};
 
 #[test]
 fn three_of_four_are_a_quorum(rt: HostRuntime) -> Result<(), Fail> {
@@ -108,6 +109,23 @@ fn stations_that_keep_a_value(rt: HostRuntime) {
     );
     assert_eq!(rt; Number::columns(), 1);
     assert_eq!(rt; Tally::columns(), 3);
+}
+
+#[test]
+fn values_that_compare_equal_may_differ(rt: HostRuntime) {
+    let early = Timed {
+        count: 7,
+        second: 1,
+    };
+    let late = Timed {
+        count: 7,
+        second: 2,
+    };
+    assert!(rt; early == late && !early.same(&late));
+    assert_eq!(rt;
+        holders(&[Some(early), Some(late), None, Some(early)], early),
+        0b1001
+    );
 }
 
 fn printed(heap: Global, arguments: &[&str]) -> Result<String, AllocError> {

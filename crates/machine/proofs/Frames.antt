@@ -2,12 +2,12 @@
 use Rattle.std.proofs.Common.{◌≡◌, ℕ, suc, List, refl, ap}
 use Rattle.machine.specs.declared.message.Message.{Message}
 use Rattle.machine.specs.declared.message.Message.TheVariants.{Init, Echo, Ready, WriteDone, Read, State as StateOf, CatchUp, CatchUpDone}
-use Rattle.machine.specs.State.{Setting, Cell, State, number, put_pair}
+use Rattle.machine.specs.State.{Setting, Cell, State, number, put_pair, remove}
 use Rattle.machine.specs.Publishing.{mark_echoed, mark_readied, vote_echo, vote_ready}
 use Rattle.machine.proofs.Tables.{put_pair_all, all_one, all_to_all}
 use Rattle.machine.proofs.Pools.{Swap, swap_new, swap_removed, swap_both}
 use Rattle.machine.proofs.Acts.{StartRead, SendEcho, GotEcho, GotReady, SendReady, GotReport, Freshen, GotDone, EndWrite, GotCaught, EndRead, Report, AnswerNow, Hold}
-use Rattle.machine.proofs.Acts.{apply, Guard}
+use Rattle.machine.proofs.Acts.{apply, Guard, At}
 
 -- the kinds of the broadcast, and the others
 abbrev pub Casting : {V : Type 0} → Message V → Type 0
@@ -90,9 +90,25 @@ module _ {V : Type 0} (c : Setting V) (f : ℕ) where
       casts_cell i j (mark_readied (s.cell i j)) s _ refl refl
       (swap_new Casting Casting s.pool _ (all_to_all Casting s.figures.stations (λ k. Ready i k j (suc (number s i j)) v) (λ k. tt)))
 
+  pub casts_drop : (p : ℕ) (m : Message V) (s : State V) → At c f s p m → Casting m → Casts s (remove p s)
+  casts_drop p m s e w =
+      record {
+        figures_same = refl;
+        number_same = λ a b. refl;
+        value_same = λ a b. refl;
+        station_same = λ a. refl;
+        reads_same = λ a b. refl;
+        reports_same = λ a. refl;
+        held_same = λ a k b. refl;
+        pool_change = swap_removed Casting Casting s.pool p m e w;
+      }
+
   asks : (s t : State V) → t.figures ≡ s.figures → t.cell ≡ s.cell → ((a : ℕ) → (t.station a).written ≡ (s.station a).written)
       → Swap Asking Asking s.pool t.pool → Asks s t
   asks s t e e' w p = record { figures_same = e; cell_same = λ a b. ap (λ (g : ℕ → ℕ → Cell V). g a b) e'; written_same = w; pool_change = p }
+
+  pub asks_drop : (p : ℕ) (m : Message V) (s : State V) → At c f s p m → Asking m → Asks s (remove p s)
+  asks_drop p m s e w = asks s (remove p s) refl refl (λ a. refl) (swap_removed Asking Asking s.pool p m e w)
 
   pub asks_begin_read : (i j : ℕ) (s : State V) → Asks s (apply c f (StartRead i j) s)
   asks_begin_read i j s =

@@ -10,6 +10,9 @@ Swap {A} N D l l' =
     (kept : List A) × (new : List A) × (l' ≡ kept ++ new) × All N new
     × ((kept ≡ l) ⊎ ((p : ℕ) × (m : A) × (slice_get l p ≡ Some m) × D m × (kept ≡ remove l p)))
 
+pub swap_none : {A : Type 0} (N D : A → Type 0) (l : List A) → Swap N D l l
+swap_none N D l = (l, [], sym (append-nil l), All-nil N, inl refl)
+
 pub swap_new : {A : Type 0} (N D : A → Type 0) (l new : List A) → All N new → Swap N D l (l ++ new)
 swap_new N D l new a = (l, new, refl, a, inl refl)
 

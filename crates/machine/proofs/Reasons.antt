@@ -11,7 +11,7 @@ use Rattle.machine.specs.Calls.{Names, first_that_fits, forge_reasons, forge_dec
 use Rattle.machine.proofs.Tables.{all_nth}
 
 -- where no reason fits, each is false
-none_fits : (l : List (Bool × Decline)) → first_that_fits l ≡ None → All (λ reason. reason.0 ≡ false) l
+pub none_fits : (l : List (Bool × Decline)) → first_that_fits l ≡ None → All (λ reason. reason.0 ≡ false) l
 none_fits [] e = All-nil (λ reason. reason.0 ≡ false)
 none_fits (reason ∷ l) e =
     let w = pass reason.0 (first_that_fits l) reason.1 e in All-cons (λ reason. reason.0 ≡ false) reason l w.0 (none_fits l w.1)

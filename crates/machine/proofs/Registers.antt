@@ -13,11 +13,11 @@ use Rattle.machine.specs.declared.message.Message.TheVariants.{Init, Echo, Ready
 use Rattle.machine.specs.declared.station.Stage.{Stage}
 use Rattle.machine.specs.declared.station.Stage.TheVariants.{Idle, Writing, Querying, Catching}
 use Rattle.machine.specs.declared.station.Station.{Station}
-use Rattle.machine.specs.State.{Setting, Cell, State, number, put, put_pair, fresh_cell}
+use Rattle.machine.specs.State.{Setting, Lawful, Cell, State, number, put, put_pair, fresh_cell}
 use Rattle.machine.specs.Calls.{sender}
 use Rattle.machine.proofs.Tables.{put_all, put_else, put_same, put_other, put_pair_else, put_pair_other, put_pair_same, all_nth, all_removed, all_to_all, all_and_each}
 use Rattle.machine.proofs.Pools.{swap_all}
-use Rattle.machine.proofs.Quorums.{joins}
+use Rattle.machine.proofs.Quorums.{joins, everyone}
 use Rattle.machine.proofs.Acts.{Act, Elsewhere, Drop, StartWrite, StartRead, SendEcho, GotEcho, GotReady, SendReady, TakeValue, GotReport, Freshen, GotDone, EndWrite, GotCaught, EndRead, Report, AnswerNow, Hold}
 use Rattle.machine.proofs.Acts.{In, apply, Guard, Foreign}
 use Rattle.machine.proofs.Frames.{Casting, Casts, casts_send_echo, casts_got_echo, casts_got_ready, casts_send_ready}
@@ -261,6 +261,9 @@ module _ {V : Type 0} (c : Setting V) (f : ℕ) (v₀ : V) where
 
   pub settled_later : (far far' : ℕ → ℕ) (x : ℕ) → ((k : ℕ) → In f k → far k ≤ far' k) → Settled far x → Settled far' x
   settled_later far far' x le a = (a.0, a.1, λ k l m e. omega (arith, a.2 k l m e, le k e))
+
+  pub settled_none : Lawful c → (far : ℕ → ℕ) → Settled far 0
+  settled_none L far = ((everyone c L).0, (everyone c L).1, λ k l m e. omega arith)
 
   module _ (s : State V) (h : History V) (R : Recorded c f v₀ s h) (S : Sincere s h) where
     -- an operation that ends is settled

@@ -110,13 +110,17 @@ all_nth P l p m a e = subst P (get_or_from_slice_get l p m m e) (a p m (slice_ge
 pub all_removed : {A : Type 0} (P : A → Type 0) (l : List A) (p : ℕ) → All P l → All P (remove l p)
 all_removed P l p a = All-append P (take p l) (drop (suc p) l) (All-take P p l a) (All-drop P (suc p) l a)
 
+-- a fact of everything is a fact of each element
+pub all_of : {A : Type 0} (P : A → Type 0) (l : List A) → ((x : A) → P x) → All P l
+all_of P l h p d lt = h (get_or l p d)
+
 -- a list of one element
 pub all_one : {A : Type 0} (P : A → Type 0) (x : A) → P x → All P (x ∷ [])
 all_one P x h = All-cons P x [] h (All-nil P)
 
 -- a fact of every f k is a fact of those in a list
 all_each : {A : Type 0} (P : A → Type 0) (f : ℕ → A) (l : List ℕ) → ((k : ℕ) → P (f k)) → All P (map f l)
-all_each P f l h = All-map P f l (λ p d lt. h (get_or l p d))
+all_each P f l h = All-map P f l (all_of (λ k. P (f k)) l h)
 
 pub all_to_all : {A : Type 0} (P : A → Type 0) (n : ℕ) (f : ℕ → A) → ((k : ℕ) → P (f k)) → All P (to_all n f)
 all_to_all P n f h = all_each P f (range_with_len 0 n) h

@@ -28,6 +28,15 @@ pub record Grown {V : Type 0} (g h : History V) : Type 0 where
 pub grown_refl : {V : Type 0} (h : History V) → Grown h h
 grown_refl h = record { published = λ i x v e. e; echoed = λ i j x v e. e; readied = λ i j x v e. e; took = λ i j x v e. e }
 
+pub grown_trans : {V : Type 0} (g h k : History V) → Grown g h → Grown h k → Grown g k
+grown_trans g h k a b =
+    record {
+      published = λ i x v e. b.published i x v (a.published i x v e);
+      echoed = λ i j x v e. b.echoed i j x v (a.echoed i j x v e);
+      readied = λ i j x v e. b.readied i j x v (a.readied i j x v e);
+      took = λ i j x v e. b.took i j x v (a.took i j x v e);
+    }
+
 module _ {V : Type 0} (c : Setting V) (L : Lawful c) (f : ℕ) (ok : c.system.allowed f ≡ true) (v₀ : V) where
   -- some quorum's members inside all said v
   abbrev pub Backed : (ℕ → Option V) → V → Type 0

@@ -15,14 +15,14 @@ use value::Value;
 // fit one order that is legal and keeps precedence. Rest: when no message between correct stations can be taken,
 // no correct station has an operation open.
 pub fn order_and_rest<V: Value, S: QuorumSystem>(system: &S, opening: &V)
-    ensures { OrderAndRest (setting (S.families system.now) V.eq) }
+    ensures { OrderAndRest (setting (S.families system.now) V.equal) }
 {
     laws_hold(system);
 }
 
 // The four properties of the broadcast: agreement, validity, and at rest totality and delivery.
 pub fn broadcast_properties<V: Value, S: QuorumSystem>(system: &S, opening: &V)
-    ensures { BroadcastProperties (setting (S.families system.now) V.eq) }
+    ensures { BroadcastProperties (setting (S.families system.now) V.equal) }
 {
     laws_hold(system);
 }

@@ -58,7 +58,7 @@ pub fn test_freshness<V: Value, S: QuorumSystem>(
     requires station { i < figures.now.stations }
     requires register { j < figures.now.stations }
     requires room { tables.old.pool.waiting + figures.now.stations ≤ figures.now.places }
-    ensures shows { Becomes figures.now tables.old tables.new (test_freshness (setting (S.families system.now) V.eq) i j (view figures.now tables.old)) }
+    ensures shows { Becomes figures.now tables.old tables.new (test_freshness (setting (S.families system.now) V.equal) i j (view figures.now tables.old)) }
     ensures sent { tables.new.pool.waiting ≤ tables.old.pool.waiting + figures.now.stations }
 {
     if let Stage::Querying {
@@ -85,7 +85,7 @@ fn end_write<V: Value, S: QuorumSystem>(
 ) -> Answer<V>
     requires sound { Sound figures.now tables.old }
     requires station { i < figures.now.stations }
-    ensures performs { Performs figures.now tables.old tables.new result (end_write (setting (S.families system.now) V.eq) i number done (view figures.now tables.old)) }
+    ensures performs { Performs figures.now tables.old tables.new result (end_write (setting (S.families system.now) V.equal) i number done (view figures.now tables.old)) }
     ensures sent { tables.new.pool.waiting ≡ tables.old.pool.waiting }
 {
     if system.is_quorum(done) {
@@ -108,7 +108,7 @@ pub fn on_write_done<V: Value, S: QuorumSystem>(
 ) -> Answer<V>
     requires sound { Sound figures.now tables.old }
     requires station { i < figures.now.stations }
-    ensures performs { Performs figures.now tables.old tables.new result (on_write_done (setting (S.families system.now) V.eq) i k number (view figures.now tables.old)) }
+    ensures performs { Performs figures.now tables.old tables.new result (on_write_done (setting (S.families system.now) V.equal) i k number (view figures.now tables.old)) }
     ensures sent { tables.new.pool.waiting ≡ tables.old.pool.waiting }
 {
     match tables.station(figures, i).stage {
@@ -193,7 +193,7 @@ pub fn on_state<V: Value, S: QuorumSystem>(
     requires reporting { k < figures.now.stations }
     requires register { j < figures.now.stations }
     requires room { tables.old.pool.waiting + figures.now.stations ≤ figures.now.places }
-    ensures shows { Becomes figures.now tables.old tables.new (on_state (setting (S.families system.now) V.eq) i k j read number (view figures.now tables.old)) }
+    ensures shows { Becomes figures.now tables.old tables.new (on_state (setting (S.families system.now) V.equal) i k j read number (view figures.now tables.old)) }
     ensures sent { tables.new.pool.waiting ≤ tables.old.pool.waiting + figures.now.stations }
 {
     if let Stage::Querying {
@@ -253,7 +253,7 @@ fn end_read<V: Value, S: QuorumSystem>(
 ) -> Answer<V>
     requires sound { Sound figures.now tables.old }
     requires station { i < figures.now.stations }
-    ensures performs { Performs figures.now tables.old tables.new result (end_read (setting (S.families system.now) V.eq) i j number value done (view figures.now tables.old)) }
+    ensures performs { Performs figures.now tables.old tables.new result (end_read (setting (S.families system.now) V.equal) i j number value done (view figures.now tables.old)) }
     ensures sent { tables.new.pool.waiting ≡ tables.old.pool.waiting }
 {
     if system.is_quorum(done) {
@@ -288,7 +288,7 @@ pub fn on_catch_up_done<V: Value, S: QuorumSystem>(
 ) -> Answer<V>
     requires sound { Sound figures.now tables.old }
     requires station { i < figures.now.stations }
-    ensures performs { Performs figures.now tables.old tables.new result (on_catch_up_done (setting (S.families system.now) V.eq) i k j number (view figures.now tables.old)) }
+    ensures performs { Performs figures.now tables.old tables.new result (on_catch_up_done (setting (S.families system.now) V.equal) i k j number (view figures.now tables.old)) }
     ensures sent { tables.new.pool.waiting ≡ tables.old.pool.waiting }
 {
     match tables.station(figures, i).stage {

@@ -138,7 +138,7 @@ fn count_echoes<V: Value, S: QuorumSystem>(
     requires register { publication.register < figures.now.stations }
     requires next { IsNext figures.now tables.old i publication }
     requires room { tables.old.pool.waiting + figures.now.stations ≤ figures.now.places }
-    ensures shows { Becomes figures.now tables.old tables.new (count_echoes (setting (S.families system.now) V.eq) i publication.register publication.value (view figures.now tables.old)) }
+    ensures shows { Becomes figures.now tables.old tables.new (count_echoes (setting (S.families system.now) V.equal) i publication.register publication.value (view figures.now tables.old)) }
     ensures sent { tables.new.pool.waiting ≤ tables.old.pool.waiting + figures.now.stations }
 {
     let Publication {
@@ -168,7 +168,7 @@ pub fn on_echo<V: Value, S: QuorumSystem>(
     requires register { publication.register < figures.now.stations }
     requires next { IsNext figures.now tables.old i publication }
     requires room { tables.old.pool.waiting + figures.now.stations ≤ figures.now.places }
-    ensures shows { Becomes figures.now tables.old tables.new (on_echo (setting (S.families system.now) V.eq) i publication.register k publication.value (view figures.now tables.old)) }
+    ensures shows { Becomes figures.now tables.old tables.new (on_echo (setting (S.families system.now) V.equal) i publication.register k publication.value (view figures.now tables.old)) }
     ensures sent { tables.new.pool.waiting ≤ tables.old.pool.waiting + figures.now.stations }
 {
     let Publication {
@@ -196,7 +196,7 @@ fn join_readies<V: Value, S: QuorumSystem>(
     requires register { publication.register < figures.now.stations }
     requires next { IsNext figures.now tables.old i publication }
     requires room { tables.old.pool.waiting + figures.now.stations ≤ figures.now.places }
-    ensures shows { Becomes figures.now tables.old tables.new (join_readies (setting (S.families system.now) V.eq) i publication.register publication.value (view figures.now tables.old)) }
+    ensures shows { Becomes figures.now tables.old tables.new (join_readies (setting (S.families system.now) V.equal) i publication.register publication.value (view figures.now tables.old)) }
     ensures sent { tables.new.pool.waiting ≤ tables.old.pool.waiting + figures.now.stations }
 {
     let Publication {
@@ -303,7 +303,7 @@ fn take_and_test<V: Value, S: QuorumSystem>(
     requires register { publication.register < figures.now.stations }
     requires next { IsNext figures.now tables.old i publication }
     requires room { tables.old.pool.waiting + 2 * figures.now.stations + 1 ≤ figures.now.places }
-    ensures shows { Becomes figures.now tables.old tables.new (test_freshness (setting (S.families system.now) V.eq) i publication.register (take_value i publication.register publication.value (view figures.now tables.old))) }
+    ensures shows { Becomes figures.now tables.old tables.new (test_freshness (setting (S.families system.now) V.equal) i publication.register (take_value i publication.register publication.value (view figures.now tables.old))) }
     ensures sent { tables.new.pool.waiting ≤ tables.old.pool.waiting + 2 * figures.now.stations + 1 }
 {
     take_value(tables, figures, i, publication);
@@ -323,7 +323,7 @@ fn count_readies<V: Value, S: QuorumSystem>(
     requires register { publication.register < figures.now.stations }
     requires next { IsNext figures.now tables.old i publication }
     requires room { tables.old.pool.waiting + 2 * figures.now.stations + 1 ≤ figures.now.places }
-    ensures shows { Becomes figures.now tables.old tables.new (count_readies (setting (S.families system.now) V.eq) i publication.register publication.value (view figures.now tables.old)) }
+    ensures shows { Becomes figures.now tables.old tables.new (count_readies (setting (S.families system.now) V.equal) i publication.register publication.value (view figures.now tables.old)) }
     ensures sent { tables.new.pool.waiting ≤ tables.old.pool.waiting + 2 * figures.now.stations + 1 }
 {
     let Publication {
@@ -351,7 +351,7 @@ pub fn on_ready<V: Value, S: QuorumSystem>(
     requires register { publication.register < figures.now.stations }
     requires next { IsNext figures.now tables.old i publication }
     requires room { tables.old.pool.waiting + (3 * figures.now.stations + 1) ≤ figures.now.places }
-    ensures shows { Becomes figures.now tables.old tables.new (on_ready (setting (S.families system.now) V.eq) i publication.register k publication.value (view figures.now tables.old)) }
+    ensures shows { Becomes figures.now tables.old tables.new (on_ready (setting (S.families system.now) V.equal) i publication.register k publication.value (view figures.now tables.old)) }
     ensures sent { tables.new.pool.waiting ≤ tables.old.pool.waiting + (3 * figures.now.stations + 1) }
 {
     let Publication {

@@ -19,6 +19,22 @@ pub enum Unfit {
     TooFewSites,
 }
 
+impl Unfit {
+    // The words stand apart from the writing of them, which may fail.
+    fn words(self) -> &'static str
+        ensures { result.now ≡ why self }
+    {
+        match self {
+            Unfit::NoStations => "there is no station",
+            Unfit::TooManyStations => "there are more than ten stations",
+            Unfit::TooManyFaults =>
+                "three times the faulty stations must be fewer than all stations",
+            Unfit::NoSuchSite(_) => "site numbers are 0 to 9",
+            Unfit::TooFewSites => "at least four sites must occur",
+        }
+    }
+}
+
 impl From<Unfit> for Decline {
     ghost from_gives = { λ reason r. r ≡ decline_of reason };
 
@@ -37,14 +53,7 @@ impl fmt::Display for Unfit {
     ghost output = { λ reason. Some (why reason) };
 
     fn fmt<W: fmt::Write>(&self, f: &mut fmt::Formatter<W>) -> fmt::Result {
-        f.write_str(match self {
-            Unfit::NoStations => "there is no station",
-            Unfit::TooManyStations => "there are more than ten stations",
-            Unfit::TooManyFaults =>
-                "three times the faulty stations must be fewer than all stations",
-            Unfit::NoSuchSite(_) => "site numbers are 0 to 9",
-            Unfit::TooFewSites => "at least four sites must occur",
-        })
+        f.write_str(self.words())
     }
 }
 

@@ -1,5 +1,5 @@
 -- What the program's arguments ask for.
-use Rattle.std.specs.Prelude.{◌≡◌, ℕ, ◌^◌, ◌<◌, List, [], ◌∷◌, map, length, vec_items, string_bytes, codes, String}
+use Rattle.std.specs.Prelude.{◌≡◌, ℕ, ◌^◌, ◌<◌, cond, List, [], ◌∷◌, map, length, Ok, Err, vec_items, string_bytes, codes, Result, String, ◌==◌, slice_index}
 use Rattle.std.specs.List.{AllZip}
 use Rattle.std.specs.Str.Parse.{IsNumeral, digits_value, without_leading_plus}
 use Rattle.std.specs.declared.alloc.Global.{Global}
@@ -34,3 +34,7 @@ Asks words (Sites sites) = (rest : List (List ℕ)) × (words ≡ codes "sites" 
 abbrev pub AsksNothing : List (List ℕ) → ArgumentError → Type 0
 AsksNothing words Unreadable = (request : Request) → Asks words request → ⊥
 AsksNothing words NoMemory = Unit {0}
+
+-- the request of `counting`, by the numbers after it
+abbrev pub counting_request : List ℕ → Result Request ArgumentError
+counting_request ns = cond (length ns == 2) (Ok (Counting (slice_index ns 0) (slice_index ns 1))) (Err Unreadable)

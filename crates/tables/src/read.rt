@@ -103,7 +103,7 @@ impl<'a, V: Value> Tables<'a, V> {
         requires sound { Sound figures.now self.now }
         requires station { i < figures.now.stations }
         requires register { j < figures.now.stations }
-        ensures { result ≡ set_of figures.now.stations (λ k. keeps V.eq v (votes_of kind ((view figures.now self.now).cell i j) k)) }
+        ensures { result ≡ set_of figures.now.stations (λ k. keeps V.equal v (votes_of kind ((view figures.now self.now).cell i j) k)) }
     {
         let at = votes_index(figures.stations, kind.half(), i, j);
         holders(&self.votes[at..at + figures.stations], v)

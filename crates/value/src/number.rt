@@ -1,4 +1,5 @@
 //! Numbers as values.
+ghost use Rattle.value.specs.Kinds.{same_number};
 ghost use Rattle.std.proofs.Common.{rules};
 
 use crate::{Printable, Value};
@@ -8,7 +9,13 @@ use crate::{Printable, Value};
 pub struct Number(pub u32);
 
 impl Value for Number {
+    ghost equal = { same_number };
+
     ghost exact = { Prim.search rules };
+
+    fn same(&self, other: &Number) -> bool {
+        self == other
+    }
 }
 
 impl Printable for Number {

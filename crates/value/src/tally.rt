@@ -1,4 +1,5 @@
 //! Tallies of a test run as values.
+ghost use Rattle.value.specs.Kinds.{same_tally};
 ghost use Rattle.std.proofs.Common.{rules};
 
 use crate::{Printable, Value};
@@ -12,7 +13,13 @@ pub struct Tally {
 }
 
 impl Value for Tally {
+    ghost equal = { same_tally };
+
     ghost exact = { Prim.search rules };
+
+    fn same(&self, other: &Tally) -> bool {
+        self == other
+    }
 }
 
 impl Printable for Tally {

@@ -9,4 +9,4 @@ returns-then-not-contains-clause-shows g c =
     let f = c.args.figures.now in
     let t = c.args.tables.now in
     becomes_same f t _ _ _ (search (rules, tests))
-    (and_then f t _ _ _ (test_freshness (setting (g.S.QuorumSystem.families c.args.system.now) g.V.PartialEq.eq) c.args.i c.args.j) c.keep_report.ensures.shows c.test_freshness.ensures.shows)
+    (and_then f t _ _ _ (test_freshness (setting (g.S.QuorumSystem.families c.args.system.now) g.V.Value.equal) c.args.i c.args.j) c.keep_report.ensures.shows c.test_freshness.ensures.shows)

@@ -19,4 +19,4 @@ returns-then-is_none-clause-shows g c =
     let f = c.args.figures.now in
     let t = c.args.tables.now in
     becomes_same f t _ _ _ (search (rules, tests))
-    (and_then f t _ _ _ (count_echoes (setting (g.S.QuorumSystem.families c.args.system.now) g.V.PartialEq.eq) c.args.i c.args.publication.register c.args.publication.value) c.set_vote.ensures.shows c.count_echoes.ensures.shows)
+    (and_then f t _ _ _ (count_echoes (setting (g.S.QuorumSystem.families c.args.system.now) g.V.Value.equal) c.args.i c.args.publication.register c.args.publication.value) c.set_vote.ensures.shows c.count_echoes.ensures.shows)

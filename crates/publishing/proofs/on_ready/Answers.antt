@@ -24,7 +24,7 @@ count_readies-requires-clause-next g c =
     let voted = view f c.set_vote.new.self in
     let joined : number (view f c.join_readies.new.tables) i j ≡ number voted i j =
     ap (λ u. number u i j) c.join_readies.ensures.shows.shows
-    ∙ number_joined (setting (g.S.QuorumSystem.families c.args.system.now) g.V.PartialEq.eq) i j v voted in
+    ∙ number_joined (setting (g.S.QuorumSystem.families c.args.system.now) g.V.Value.equal) i j v voted in
     c.requires.next ∙ ap suc (sym (joined ∙ ap (λ u. number u i j) c.set_vote.ensures.shows.shows ∙ number_voted Ready i j c.args.k v s))
 
 pub returns-then-is_none-clause-shows : goal.returns-then-is_none-clause-shows
@@ -34,6 +34,6 @@ returns-then-is_none-clause-shows g c =
     let i = c.args.i in
     let j = c.args.publication.register in
     let v = c.args.publication.value in
-    let setup = setting (g.S.QuorumSystem.families c.args.system.now) g.V.PartialEq.eq in
+    let setup = setting (g.S.QuorumSystem.families c.args.system.now) g.V.Value.equal in
     becomes_same f t _ _ _ (search (rules, tests))
     (and_then f t _ _ _ (count_readies setup i j v) (and_then f t _ _ _ (join_readies setup i j v) c.set_vote.ensures.shows c.join_readies.ensures.shows) c.count_readies.ensures.shows)

@@ -14,7 +14,7 @@ keeps-exactly equal exact v (Some w) = Decides-like (equal w v) (λ e. ap Some e
 
 pub returns : goal.returns
 returns g c =
-    let equal = g.V.PartialEq.eq in
+    let equal = g.V.Value.equal in
     let row = c.args.row.now in
     let v = c.args.v in
     let test : ℕ → Bool = λ s. keeps equal v (get_or row s None) in

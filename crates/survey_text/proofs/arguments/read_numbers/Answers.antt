@@ -4,8 +4,8 @@ use Rattle.survey_text.specs.Asked.{Spells}
 use Rattle.survey_text.proofs.Spelled.{spell_more, spells_none}
 use Rattle.survey_text.proofs.arguments.read_numbers.Goals as goal
 
-pub returns-in_err-parse : goal.returns-in_err-parse
-returns-in_err-parse c =
+pub returns-in_err-parse-clause-spelled : goal.returns-in_err-parse-clause-spelled
+returns-in_err-parse-clause-spelled c =
     let here : c.loop-word.word-index < length c.args.words.now = omega arith in
     let unread : (n : ℕ) → Spells (string_bytes c.word-item.result) n → ⊥ = λ n s. c.in_err-parse.ensures.value.0 (rw c.as_str.ensures.value (s.0, s.1)) in
     let p = err_from_is_err_and c.from_residual.result c.from_residual.ensures.1 in

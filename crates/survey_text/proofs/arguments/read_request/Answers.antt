@@ -1,32 +1,15 @@
-use Rattle.std.proofs.Common.{◌≡◌, ◌∷◌, length, drop, vec_items, string_bytes, codes, ap, rules, arith}
+use Rattle.std.proofs.Common.{◌≡◌, ◌∷◌, drop, vec_items, string_bytes, codes, sym, ap, ◌∙◌, arith}
 use Rattle.std.proofs.lemmas.List.{take_rest}
-use Rattle.std.proofs.lemmas.Grind.{common_steps}
-use Rattle.survey_text.specs.Asked.{words_of, SpellAll, Asks}
-use Rattle.survey_text.proofs.Spelled.{words_split, asks_nothing}
+use Rattle.survey_text.specs.Asked.{words_of, SpellAll, counting_request}
+use Rattle.survey_text.proofs.Spelled.{words_split, counting_asked}
 use Rattle.survey_text.proofs.arguments.read_request.Goals as goal
-use Rattle.survey_text.proofs.arguments.read_request.Goals.{in_default-2-via-in-counting-0+then-as_slice-lt2, in_default-2-via-in-counting-0+else-as_slice-lt2+else-this-lt3, in_default-2-via-in-sites-0+then-this-lt1, in_default-2-via-in_default-2}
 
-pub returns-in_default-2 : goal.returns-in_default-2
-returns-in_default-2 c request asks =
+pub returns-in-counting-default-clause-asked : goal.returns-in-counting-default-clause-asked
+returns-in-counting-default-clause-asked c =
     let words = c.args.words.now in
     let x = c.kind-item.result in
-    let ns = vec_items c.in_ok-numbers.numbers in
-    let all : SpellAll (words_of (drop 1 words)) ns = rw (← take_rest words 1) c.in_ok-numbers.ensures in
-    let as_many : length c.as_slice.result.now ≡ length ns = ap length c.as_slice.ensures.value in
-    let split : words_of words ≡ string_bytes x ∷ words_of (drop 1 words) = words_split words x (omega arith) c.kind-item.is in
-    let asked : Asks (string_bytes x ∷ words_of (drop 1 words)) request = rw (← split) asks in
-    let counting : string_bytes x ≡ codes "counting" → length ns ≡ 2 → ⊥ =
-    λ e two. elim c.in_default-2.branch [
-      | in_default-2-via-in-counting-0+then-as_slice-lt2 w ↦ grind (arith, as_many)
-      | in_default-2-via-in-counting-0+else-as_slice-lt2+else-this-lt3 w ↦ grind (arith, as_many)
-      | in_default-2-via-in-sites-0+then-this-lt1 w ↦ grind (arith, common_steps)
-      | in_default-2-via-in_default-2 w ↦ search rules
-    ] in
-    let sites : string_bytes x ≡ codes "sites" → length ns ≡ 0 =
-    λ e. elim c.in_default-2.branch [
-      | in_default-2-via-in-counting-0+then-as_slice-lt2 w ↦ search rules
-      | in_default-2-via-in-counting-0+else-as_slice-lt2+else-this-lt3 w ↦ grind (arith, common_steps)
-      | in_default-2-via-in-sites-0+then-this-lt1 w ↦ grind (arith, as_many)
-      | in_default-2-via-in_default-2 w ↦ grind (arith, common_steps)
-    ] in
-    asks_nothing (string_bytes x) (words_of (drop 1 words)) ns all counting sites request asked
+    let rest = words_of (drop 1 words) in
+    let all : SpellAll rest (vec_items c.in_ok-numbers.numbers) = rw (← take_rest words 1) c.in_ok-numbers.ensures.spelled in
+    let split : words_of words ≡ string_bytes x ∷ rest = words_split words x (omega arith) c.kind-item.is in
+    let first : string_bytes x ≡ codes "counting" = sym c.as_str.ensures.value ∙ c.in-counting-default.is-counting-0 in
+    rw (c.counting_request.ensures ∙ ap counting_request c.as_slice-numbers.ensures.value, split) (counting_asked (string_bytes x) rest _ first all)
