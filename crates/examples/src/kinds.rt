@@ -1,4 +1,4 @@
-//! A kind of value whose `==` says less than sameness.
+//! A kind of value whose `==` leaves a field out.
 ghost use Rattle.machine.specs.State.{setting};
 ghost use Rattle.machine.specs.Order.{OrderAndRest};
 ghost use Rattle.examples.specs.Kinds.{same_timed};

@@ -20,7 +20,7 @@ pub enum Unfit {
 }
 
 impl Unfit {
-    // The words stand apart from the writing of them, which may fail.
+    // The reason in words. Only writing them may fail.
     fn words(self) -> &'static str
         ensures { result.now ≡ why self }
     {

@@ -17,7 +17,7 @@ fn read_numbers(heap: Global, words: &[String]) -> Result<Vec<u64>, ArgumentErro
     Ok(numbers)
 }
 
-// `counting` asks for two numbers; any other count of them is no want of memory.
+// `counting` asks for two numbers; with any other number of them it asks for nothing.
 fn counting_request(numbers: &[u64]) -> Result<Request, ArgumentError>
     ensures { result ≡ counting_request numbers.now }
 {
@@ -37,7 +37,7 @@ pub fn read_request(heap: Global, words: &[String]) -> Result<Request, ArgumentE
     };
     let numbers = read_numbers(heap, figures)?;
     match (kind.as_str(), numbers.as_slice()) {
-        ("counting", numbers) => counting_request(numbers),
+        ("counting", pair) => counting_request(pair),
         ("sites", [_, ..]) => Ok(Request::Sites(numbers)),
         _ => Err(ArgumentError::Unreadable),
     }

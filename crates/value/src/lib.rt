@@ -13,8 +13,8 @@ pub mod tally;
 pub use number::Number;
 pub use tally::Tally;
 
-// A kind of value: it can be copied, and `same` says yes exactly for the same value. Its `==`, if it has one, may say
-// less, as one that leaves a field out.
+// A kind of value: it can be copied, and `same` says yes exactly for the same value. Its `==`, if it has one, need not:
+// it may leave a field out.
 pub trait Value: Copy {
     ghost equal: { Self → Self → Bool };
 

@@ -12,4 +12,4 @@ returns-in-counting-default-clause-asked c =
     let all : SpellAll rest (vec_items c.in_ok-numbers.numbers) = rw (← take_rest words 1) c.in_ok-numbers.ensures.spelled in
     let split : words_of words ≡ string_bytes x ∷ rest = words_split words x (omega arith) c.kind-item.is in
     let first : string_bytes x ≡ codes "counting" = sym c.as_str.ensures.value ∙ c.in-counting-default.is-counting-0 in
-    rw (c.counting_request.ensures ∙ ap counting_request c.as_slice-numbers.ensures.value, split) (counting_asked (string_bytes x) rest _ first all)
+    rw (c.counting_request.ensures ∙ ap counting_request c.as_slice-pair.ensures.value, split) (counting_asked (string_bytes x) rest _ first all)
