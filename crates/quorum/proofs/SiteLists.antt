@@ -33,7 +33,7 @@ abbrev pub reason_or : Option Unfit → Option ℕ → Option Unfit
 reason_or next None = next
 reason_or next (Some site) = Some (NoSuchSite site)
 
-bad_site_found : (next : Option Unfit) (xs : List ℕ) → bad_site_or next xs ≡ reason_or next (find (leb 10) xs)
+pub bad_site_found : (next : Option Unfit) (xs : List ℕ) → bad_site_or next xs ≡ reason_or next (find (leb 10) xs)
 bad_site_found next [] = refl
 bad_site_found next (x ∷ xs) =
     ⊎_elim

@@ -14,17 +14,17 @@ use Rattle.survey_text.specs.Printed.{counting_name, sites_name, request_name, d
 use Rattle.survey_text.specs.Answered.{Reports, Answers}
 
 -- the system that was made, or the first reason that bars it, is what the figures give
-told : {S : Type 0} (bar : Option Unfit) (P R : S → Type 0) (A : Type 0) (D : Unfit → Type 0) (made : Result S Unfit)
+pub told : {S : Type 0} (bar : Option Unfit) (P R : S → Type 0) (A : Type 0) (D : Unfit → Type 0) (made : Result S Unfit)
     → MadeUnless bar P made → ((system : S) → P system → R system → A) → MatchResult made R D → MatchOption bar A D
 told bar P R A D (Ok system) m h t = rw m.0 (h system m.1 t)
 told bar P R A D (Err reason) m h t = rw m t
 
 -- the same figures give the same sets
-by_figures : (n t m s : ℕ) (name text : List ℕ) → (m ≡ n) × (s ≡ t) → Reports (by_count m s) name text → Reports (by_count n t) name text
+pub by_figures : (n t m s : ℕ) (name text : List ℕ) → (m ≡ n) × (s ≡ t) → Reports (by_count m s) name text → Reports (by_count n t) name text
 by_figures n t m s name text same h = rw (← same.0, ← same.1) h
 
 -- a table that begins with the sites gives the same sets
-by_sites : (sites table : List ℕ) (n : ℕ) (name text : List ℕ) → (n ≡ length sites) × (take n table ≡ sites)
+pub by_sites : (sites table : List ℕ) (n : ℕ) (name text : List ℕ) → (n ≡ length sites) × (take n table ≡ sites)
     → Reports (by_site table n) name text → Reports (by_site sites (length sites)) name text
 by_sites sites table n name text made h =
     let same : (k : ℕ) → k < n → site_of table k ≡ site_of sites k = λ k l. sym (get_or-take n table k 0 l) ∙ ap (λ xs. site_of xs k) made.1 in
